@@ -1,8 +1,10 @@
 -- Along the steps of an attempt, what an uncrossed runner has seen of the epoch stays, but for an advance.
-use Rattle.std.specs.Prelude.{◌==◌, Bool, true, false}
-use Rattle.std.proofs.Common.{◌≡◌, ℕ, zero, suc, ◌+◌, List, [], ◌∷◌, refl, sym, ap, ◌∙◌, Some}
+use Rattle.std.specs.Prelude.{◌==◌, nat_lt, Bool, true, false, if◌then◌else◌}
+use Rattle.std.proofs.Common.{◌≡◌, ℕ, zero, suc, ◌+◌, List, [], ◌∷◌, refl, sym, ap, ◌∙◌, inl, inr, Some}
 use Rattle.machine_states.specs.body_terms.specs.declared.micro.Micro.{Micro}
 use Rattle.machine_states.specs.body_terms.specs.declared.micro.Micro.TheVariants as micros
+use Rattle.machine_states.specs.table_words.specs.Places.{block_words}
+use Rattle.machine_states.specs.table_words.specs.declared.layout.Layout.{Layout}
 use Rattle.machine_states.specs.structure_laws.specs.Scene.{Readings}
 use Rattle.machine_states.specs.structure_laws.specs.Meaning.{Meaning}
 use Rattle.machine_states.specs.runner_parts.specs.declared.event.EventKind.{EventKind}
@@ -10,15 +12,16 @@ use Rattle.machine_states.specs.runner_parts.specs.declared.event.EventKind.TheV
 use Rattle.machine_states.specs.runner_parts.specs.State.{RunState, PartState}
 use Rattle.machine_states.specs.runner_steps.specs.After.{own_epoch}
 use Rattle.machine_states.specs.runner_steps.specs.Asks.{asks}
+use Rattle.machine_states.specs.runner_steps.specs.Outside.{blocks_from}
 use Rattle.machine_states.specs.runner_steps.specs.After.{after}
 use Rattle.lone_plans.specs.one_worker.proofs.Onward.{is_advance, was_uncrossed, same_own}
 use Rattle.version_words.specs.RunnerState.{RunnerState}
 use Rattle.version_words.specs.Events.{Makes, IsMade}
-use Rattle.lone_plans.specs.one_worker.specs.next_steps.specs.Steps.{kind_at}
+use Rattle.lone_plans.specs.one_worker.specs.next_steps.specs.Steps.{slot_in, kind_at, next_block, link_kind}
 use Rattle.attempts.specs.epoch_slots.specs.Entries.{Enters, Exits}
 use Rattle.attempts.specs.epoch_slots.specs.Collects.{Scans, Looks, AreTested}
 use Rattle.attempts.specs.epoch_slots.specs.Sweeps.{Sweeps}
-use Rattle.attempts.specs.commit_log.specs.Runs.{Ran}
+use Rattle.attempts.specs.commit_log.specs.Runs.{Moved, Ran}
 use Rattle.attempts.specs.caller_facts.specs.section_runs.specs.Opened.{Opens, is_opening}
 use Rattle.attempts.specs.try_lock.specs.Plans.{Loads}
 use Rattle.attempts.specs.try_lock.specs.Prepares.{Stores, SetsWords}
@@ -31,6 +34,13 @@ opening_none _ is = absurd (let z = is in cc)
 at_none : (p : PartState) (q : RunState) (micro : Micro) → is_advance (kind_at p q micro) ≡ false
 at_none p q (micros.LoadCell place log) = refl
 at_none p q _ = refl
+
+link_none : (m : Meaning) (l : Layout) (p : PartState) (q : RunState) → is_advance (link_kind m l p q) ≡ false
+link_none m l p q = by (nat_lt q.emptied block_words)
+  where
+    by : (b : Bool) → is_advance (if b then kinds.PrivateStore (blocks_from m l + slot_in (next_block p q)) q.emptied 0 else kinds.LinkCommit (slot_in q.block)) ≡ false
+    by true = refl
+    by false = refl
 
 module _ {T : Type 0} where
   -- where the one is uncrossed, the other was, and the own epoch is as it was
@@ -117,6 +127,10 @@ module _ {T : Type 0} where
     opens_on zero a b same = stay a b same
     opens_on (suc n) a b opens = then_on a opens.0 b (opens_on n a opens.0 opens.3) (made_on opens.1 opens.2 opens.0 b (opening_none opens.1 opens.4) opens.5)
 
+    moved_on : (q : RunState) (found : ℕ) (a b : RunnerState T) → Moved m q found a b → Onward a b
+    moved_on q found a b (inl step) = made_on (kind_at a.part q step.0) found a b (at_none a.part q step.0) step.1.event
+    moved_on q found a b (inr link) = made_on (link_kind m a.layout a.part q) found a b (link_none m a.layout a.part q) link.event
+
     pub ran_on : (n : ℕ) (a b : RunnerState T) → Ran m n a b → Onward a b
     ran_on zero a b same = stay a b same
-    ran_on (suc n) a b ran = then_on a ran.0 b (made_on (kind_at a.part ran.1 ran.2) ran.3 a ran.0 (at_none a.part ran.1 ran.2) ran.4.event) (ran_on n ran.0 b ran.5)
+    ran_on (suc n) a b ran = then_on a ran.0 b (moved_on ran.1 ran.2 a ran.0 ran.3) (ran_on n ran.0 b ran.4)

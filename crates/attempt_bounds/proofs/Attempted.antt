@@ -25,7 +25,7 @@ use Rattle.attempts.specs.Attempts.{IsFew, IsShort, IsServed}
 use Rattle.attempts.specs.try_lock.proofs.Guarding.{guard_keeps}
 use Rattle.attempt_bounds.specs.Spared.{IsEarly, IsSpared, AttemptsSpareSlots}
 use Rattle.attempt_bounds.proofs.Along.{Onward, then_on, made_on, is_made_on, enters_on, exits_on, loads_on, sets_on, opens_on, ran_on}
-use Rattle.attempt_bounds.proofs.Reclaimed.{own, was_uncrossed, epoch_most, no_nodes_left, no_descriptors_left}
+use Rattle.attempt_bounds.proofs.Reclaimed.{own, was_uncrossed, epoch_most, no_nodes_left, no_descriptors_left, no_blocks_left}
 
 still_early : (e n : ℕ) → e ≤ 1 + 4 * n → n < 2 ^ 59 → e + 3 < 2 ^ 62
 still_early e n a b = omega (arith, a, b)
@@ -139,7 +139,8 @@ module _ {T : Type 0} (m : Meaning) (planning : Planning) where
 
         by : (kind : Kind) → IsFew new kind → (counts_of new kind).limbo ≡ 0
         by slots.Node few = no_nodes_left m old new is.reclaims uncrossed early_too (too_few (length new.part.nodes.free) few)
-        by slots.Descriptor few = no_descriptors_left m old new is.reclaims uncrossed (ap (λ n. n == 0) few.1)
+        by slots.Descriptor few = no_descriptors_left m old new is.reclaims uncrossed few.1
+        by slots.Block few = no_blocks_left m old new is.reclaims uncrossed few.2
 
   first_spared : (r : RunnerState T) → r.part.records.epoch_seen ≡ 0 → IsSpared r
   first_spared r epoch uncrossed low =

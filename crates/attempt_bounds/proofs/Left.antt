@@ -1,6 +1,6 @@
 -- A section of the one worker that leaves does so by a spent word.
 use Rattle.std.specs.Prelude.{slice_get, Bool, true, false, Ok, if◌then◌else◌}
-use Rattle.std.proofs.Common.{◌≡◌, ◌≢◌, ℕ, zero, suc, ◌<◌, ◌≤◌, List, [], ◌∷◌, ◌++◌, length, length-append, append-nil, append_assoc, refl, sym, ap, ◌∙◌, subst, arith, Some, None}
+use Rattle.std.proofs.Common.{◌≡◌, ◌≢◌, ℕ, zero, suc, ◌<◌, ◌≤◌, List, [], ◌∷◌, ◌++◌, length, length-append, append-nil, append_assoc, refl, sym, ap, ◌∙◌, subst, inl, inr, arith, Some, None}
 use Rattle.machine_states.specs.epoch_core.specs.small_lemmas.proofs.Lists.{get_last}
 use Rattle.machine_states.specs.map_history.specs.declared.op.Request.{Request}
 use Rattle.machine_states.specs.body_terms.specs.Line.{is_end}
@@ -26,7 +26,10 @@ use Rattle.lone_plans.specs.one_worker.proofs.SectionsReached.{reached_through}
 use Rattle.version_words.specs.machine_invariant.specs.After.{AreAllowed}
 use Rattle.version_words.specs.RunnerState.{RunnerState}
 use Rattle.lone_plans.specs.one_worker.specs.next_steps.specs.Stages.{run_behind, reads_behind, published_behind}
-use Rattle.attempts.specs.commit_log.specs.Runs.{Stepped, Ran}
+use Rattle.attempts.specs.commit_log.specs.Runs.{Stepped, LinkStepped, Moved, Ran}
+use Rattle.attempts.specs.commit_log.proofs.Running.{moved_running}
+use Rattle.attempts.specs.commit_log.proofs.Linking.{same_line}
+use Rattle.attempts.specs.caller_facts.specs.section_runs.proofs.Linked.{link_runs}
 use Rattle.attempts.specs.try_lock.specs.Planning.{Planning}
 use Rattle.attempts.specs.try_lock.specs.declared.planned.Planned.TheVariants as plans
 use Rattle.attempts.specs.try_lock.specs.declared.section.Section.{Section}
@@ -106,7 +109,19 @@ module _ {T : Type 0} (m : Meaning) where
           by_end false e = refl
       by _ e = refl
 
-  -- the last step of a run that made one
+  -- so is one by which it links a block
+  still_linked : (q : RunState) (found : ℕ) (old new : RunnerState T) → LinkStepped m q found old new → StillPublished old new
+  still_linked q found old new link = let same = same_line m q found old new link in record {
+    requests = same.requests;
+    published = same.published;
+    cells = record { more = []; is = ap (λ (s : ReadsState). s.cells) same.reads ∙ sym (append-nil old.part.reads.cells) };
+  }
+
+  still_moved : (q after : RunState) (found : ℕ) (old new : RunnerState T) → Moved m q found old new → new.part.run ≡ Some after → StillPublished old new
+  still_moved q after found old new (inl step) runs = still_step q after step.0 found old new step.1 runs
+  still_moved q after found old new (inr link) runs = still_linked q found old new link
+
+  -- the last step of a run that is over
   record HasLast (old new : RunnerState T) : Type 0 where
     pub before : RunnerState T
     pub run : RunState
@@ -115,18 +130,23 @@ module _ {T : Type 0} (m : Meaning) where
     pub step : Stepped m run micro found before new
     pub still : StillPublished old before
 
-  last_step : (n : ℕ) (old new : RunnerState T) → Ran m (suc n) old new → HasLast old new
-  last_step zero old new ran = record {
-    before = old;
-    run = ran.1;
-    micro = ran.2;
-    found = ran.3;
-    step = subst (Stepped m ran.1 ran.2 ran.3 old) (sym ran.5) ran.4;
-    still = record { requests = refl; published = refl; cells = record { more = []; is = sym (append-nil old.part.reads.cells) } };
-  }
-  last_step (suc n) old new ran =
-      let later = last_step n ran.0 new ran.5 in
-      let here = still_step ran.1 (ran.5).1 ran.2 ran.3 old ran.0 ran.4 (ran.5).4.running.inside.running in
+  last_step : (n : ℕ) (old new : RunnerState T) → Ran m (suc n) old new → new.part.run ≡ None → HasLast old new
+  last_step zero old new ran over = by (subst (λ (y : RunnerState T). Moved m ran.1 ran.2 old y) (sym ran.4) ran.3)
+    where
+      by : Moved m ran.1 ran.2 old new → HasLast old new
+      by (inl step) = record {
+        before = old;
+        run = ran.1;
+        micro = step.0;
+        found = ran.2;
+        step = step.1;
+        still = record { requests = refl; published = refl; cells = record { more = []; is = sym (append-nil old.part.reads.cells) } };
+      }
+      by (inr link) = absurd (link_runs m old new ran.1 ran.2 link over)
+  last_step (suc n) old new ran over =
+      let next = ran.4 in
+      let later = last_step n ran.0 new next over in
+      let here = still_moved ran.1 next.1 ran.2 old ran.0 ran.3 (moved_running m next.1 next.2 ran.0 next.0 next.3).inside.running in
       record {
         before = later.before;
         run = later.run;
@@ -157,7 +177,7 @@ module _ {T : Type 0} (m : Meaning) (laws : Laws m) (planning : Planning) (plann
 
   last_by : (n : ℕ) → Ran m n ends.opened ran → HasLast m ends.opened ran
   last_by zero same = absurd (none_some _ (sym (ap (λ (r : RunnerState T). r.part.run) same ∙ ends.opening.run) ∙ ends.resting))
-  last_by (suc n) steps = last_step m n ends.opened ran steps
+  last_by (suc n) steps = last_step m n ends.opened ran steps ends.resting
 
   last : HasLast m ends.opened ran
   last = last_by ends.count ends.ran

@@ -1,20 +1,22 @@
 -- What a runner has in limbo once it collected and swept where it had to, and how far it took the epoch on.
-use Rattle.std.specs.Prelude.{nat_lt, ◌==◌, Bool, true, false}
+use Rattle.std.specs.Prelude.{nat_lt, Bool, true, false}
 use Rattle.std.proofs.Common.{◌≡◌, ℕ, ◌+◌, ◌^◌, ◌<◌, ◌≤◌, length, refl, sym, ap, ◌∙◌, subst, arith, true≢false}
+use Rattle.machine_states.specs.table_words.specs.Places.{attempt_blocks}
 use Rattle.machine_states.specs.structure_laws.specs.Meaning.{Meaning}
 use Rattle.std.proofs.lemmas.Bool.Decides.{nat_tests}
 use Rattle.machine_states.specs.runner_parts.specs.declared.event.EventKind.TheVariants as kinds
-use Rattle.machine_states.specs.runner_parts.specs.State.{NodesState, DescriptorsState}
+use Rattle.machine_states.specs.runner_parts.specs.State.{NodesState, DescriptorsState, BlocksState}
 use Rattle.machine_states.specs.runner_steps.specs.After.{own_epoch}
 use Rattle.version_words.specs.RunnerState.{RunnerState}
 use Rattle.attempts.specs.epoch_slots.specs.Collects.{Collects}
-use Rattle.attempts.specs.Reclaims.{lacks_slots, lacks_descriptor, has_much_in_limbo, CollectsWhere, SparesWhere, SweepsWhere, Reclaims}
+use Rattle.attempts.specs.Reclaims.{lacks_slots, needs_sweep, has_much_in_limbo, CollectsWhere, SparesWhere, SweepsWhere, Reclaims}
+use Rattle.attempts.proofs.Refilling.{none_lacks, blocks_lack, swept_so}
 use Rattle.attempt_bounds.proofs.Recent.{recent}
 use Rattle.attempts.specs.epoch_slots.specs.Board.{IsDrawn}
 use Rattle.attempts.specs.epoch_slots.proofs.Boarding.{draws_keep, spares_keep}
 use Rattle.attempt_bounds.proofs.Along.{Onward, stay, then_on, made_on}
 use Rattle.attempt_bounds.proofs.Scanned.{old_uncrossed, epoch_is, epoch_then, nodes_left, no_nodes}
-use Rattle.attempt_bounds.proofs.Swept.{swept_on, no_descriptors}
+use Rattle.attempt_bounds.proofs.Swept.{swept_on, no_descriptors, no_blocks}
 
 still_lacking : (before behind : ℕ) → before ≤ behind → nat_lt behind 2 ≡ true → nat_lt before 2 ≡ true
 still_lacking before behind more lacks = grind (arith, nat_tests)
@@ -69,7 +71,7 @@ module _ {T : Type 0} where
       drawn = draws_on r.swept new r.draws uncrossed
 
       behind : IsUncrossed r.third × (own new ≡ own r.third)
-      behind = let swept = sweep_on (lacks_descriptor r.third) r.third r.swept r.sweeps drawn.0 in (swept.0, drawn.1 ∙ swept.1)
+      behind = let swept = sweep_on (needs_sweep r.third) r.third r.swept r.sweeps drawn.0 in (swept.0, drawn.1 ∙ swept.1)
 
       third_uncrossed : IsUncrossed r.third
       third_uncrossed = behind.0
@@ -90,15 +92,20 @@ module _ {T : Type 0} where
       was_uncrossed = where_was (has_much_in_limbo old) old r.collected r.collects collected_uncrossed
 
       -- where no descriptor is free, none of the own ones is in limbo: the sweep read no guard word that names one
-      pub no_descriptors_left : lacks_descriptor new ≡ true → length new.part.descriptors.limbo ≡ 0
-      no_descriptors_left lacks = ap (λ (d : DescriptorsState). length d.limbo) r.draws.drawn.keeps.descriptors ∙ by (lacks_descriptor r.third) refl r.sweeps
+      pub no_descriptors_left : length new.part.descriptors.free ≡ 0 → length new.part.descriptors.limbo ≡ 0
+      no_descriptors_left none = ap (λ (d : DescriptorsState). length d.limbo) r.draws.drawn.keeps.descriptors
+          ∙ no_descriptors m r.third r.swept (swept_so m old new r (none_lacks r.swept none_then)) drawn.0
         where
-          lacked_then : lacks_descriptor r.swept ≡ true
-          lacked_then = ap (λ (d : DescriptorsState). length d.free == 0) (sym r.draws.drawn.keeps.descriptors) ∙ lacks
+          none_then : length r.swept.part.descriptors.free ≡ 0
+          none_then = ap (λ (d : DescriptorsState). length d.free) (sym r.draws.drawn.keeps.descriptors) ∙ none
 
-          by : (due : Bool) → lacks_descriptor r.third ≡ due → SweepsWhere m due r.third r.swept → length r.swept.part.descriptors.limbo ≡ 0
-          by true is swept = no_descriptors m r.third r.swept swept drawn.0
-          by false is same = absurd (true≢false (sym lacked_then ∙ (ap lacks_descriptor same ∙ is)))
+      -- and so it is with the blocks, where too few are free
+      pub no_blocks_left : length new.part.blocks.free < attempt_blocks → length new.part.blocks.limbo ≡ 0
+      no_blocks_left less = ap (λ (b : BlocksState). length b.limbo) r.draws.drawn.keeps.blocks
+          ∙ no_blocks m r.third r.swept (swept_so m old new r (blocks_lack r.swept less_then)) drawn.0
+        where
+          less_then : length r.swept.part.blocks.free < attempt_blocks
+          less_then = subst (λ (b : BlocksState). length b.free < attempt_blocks) r.draws.drawn.keeps.blocks less
 
       module _ (early : own old + 3 < 2 ^ 62) where
         collected_most : own r.collected ≤ own old + 1
@@ -126,7 +133,7 @@ module _ {T : Type 0} where
         -- where node slots lack still, the last two scans that might be made were made
         module _ (lacks : lacks_slots new ≡ true) where
           same_nodes : r.swept.part.nodes ≡ r.third.part.nodes
-          same_nodes = by (lacks_descriptor r.third) r.sweeps
+          same_nodes = by (needs_sweep r.third) r.sweeps
             where
               by : (due : Bool) → SweepsWhere m due r.third r.swept → r.swept.part.nodes ≡ r.third.part.nodes
               by true swept = swept.keeps.nodes

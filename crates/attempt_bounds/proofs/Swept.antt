@@ -7,7 +7,8 @@ use Rattle.machine_states.specs.guard_core.specs.Moves.{is_unnamed}
 use Rattle.machine_states.specs.guard_core.specs.Update.{has}
 use Rattle.machine_states.specs.structure_laws.specs.Meaning.{Meaning}
 use Rattle.machine_states.specs.runner_parts.specs.declared.event.EventKind.TheVariants as kinds
-use Rattle.machine_states.specs.runner_parts.specs.State.{DescriptorsState}
+use Rattle.machine_states.specs.runner_parts.specs.declared.entries.Waiting.{Waiting}
+use Rattle.machine_states.specs.runner_parts.specs.State.{DescriptorsState, BlocksState}
 use Rattle.lone_plans.specs.one_worker.proofs.Onward.{read_unguarded}
 use Rattle.version_words.specs.RunnerState.{RunnerState}
 use Rattle.attempts.specs.epoch_slots.specs.Sweeps.{Sweeps, HasSwept}
@@ -22,6 +23,12 @@ none_named words [] none = refl
 none_named words (x ∷ xs) none =
     ap (λ (b : Bool). length (if not (not b) then x ∷ filter (λ d. not (is_unnamed words d)) xs else filter (λ d. not (is_unnamed words d)) xs)) (none x)
     ∙ none_named words xs none
+
+none_kept : (words : List ℕ) (xs : List Waiting) → ((d : ℕ) → has words (suc d) ≡ false) → length (filter (λ (x : Waiting). not (is_unnamed words x.descriptor)) xs) ≡ 0
+none_kept words [] none = refl
+none_kept words (x ∷ xs) none =
+    ap (λ (b : Bool). length (if not (not b) then x ∷ filter (λ (y : Waiting). not (is_unnamed words y.descriptor)) xs else filter (λ (y : Waiting). not (is_unnamed words y.descriptor)) xs)) (none x.descriptor)
+    ∙ none_kept words xs none
 
 module _ {T : Type 0} (m : Meaning) where
   -- each guard word that was read is 0
@@ -42,3 +49,8 @@ module _ {T : Type 0} (m : Meaning) where
     pub no_descriptors : new.part.records.crossed ≡ false → length new.part.descriptors.limbo ≡ 0
     no_descriptors uncrossed = ap (λ (d : DescriptorsState). length d.limbo) swept.descriptors
         ∙ none_named swept.found old.part.descriptors.limbo (sweeps_none 0 swept.found old new swept.sweeps uncrossed)
+
+    -- and no block
+    pub no_blocks : new.part.records.crossed ≡ false → length new.part.blocks.limbo ≡ 0
+    no_blocks uncrossed = ap (λ (b : BlocksState). length b.limbo) swept.blocks
+        ∙ none_kept swept.found old.part.blocks.limbo (sweeps_none 0 swept.found old new swept.sweeps uncrossed)

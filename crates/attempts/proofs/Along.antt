@@ -1,6 +1,6 @@
 -- What a runner knows along a run of a section, step by step.
 use Rattle.std.specs.Prelude.{Bool, true, false, slice_get}
-use Rattle.std.proofs.Common.{◌≡◌, ◌≢◌, ℕ, zero, suc, ◌<◌, List, [], ◌∷◌, ◌++◌, refl, sym, ap, ◌∙◌, subst, ⊎_elim, arith}
+use Rattle.std.proofs.Common.{◌≡◌, ◌≢◌, ℕ, zero, suc, ◌<◌, List, [], ◌∷◌, ◌++◌, refl, sym, ap, ◌∙◌, subst, ⊎_elim, inl, inr, arith, Some, None}
 use Rattle.std.proofs.lemmas.Bool.{cases_eq, cases_lt}
 use Rattle.machine_states.specs.body_terms.specs.declared.micro.Micro.{Micro}
 use Rattle.machine_states.specs.body_terms.specs.declared.micro.Micro.TheVariants as micros
@@ -26,14 +26,17 @@ use Rattle.machine_states.proofs.Steps.{some_same, none_some}
 use Rattle.caller_facts.specs.lock_walks.specs.runner_facts.specs.next_steps.specs.Steps.{kind_at}
 use Rattle.version_words.specs.RunnerState.{RunnerState}
 use Rattle.version_words.specs.TableState.{TableState, IsOf}
-use Rattle.caller_facts.specs.section_runs.specs.commit_log.specs.Runs.{IsRunning, Stepped, Ran}
+use Rattle.caller_facts.specs.section_runs.specs.commit_log.specs.Links.{with_links}
+use Rattle.caller_facts.specs.section_runs.specs.commit_log.specs.Runs.{IsRunning, Stepped, LinkStepped, Moved, Ran}
+use Rattle.caller_facts.specs.section_runs.specs.commit_log.proofs.Running.{moved_same}
 use Rattle.caller_facts.specs.section_runs.specs.commit_log.proofs.Next.{next_here}
 use Rattle.caller_facts.specs.section_runs.specs.Reached.{IsReached, run_or}
-use Rattle.caller_facts.specs.section_runs.specs.Opened.{Learns, HasOpened, opening}
+use Rattle.caller_facts.specs.section_runs.specs.Opened.{Stays, Learns, HasOpened, opening}
 use Rattle.caller_facts.specs.section_runs.proofs.Going.{shaped}
 use Rattle.caller_facts.specs.section_runs.proofs.Records.{noted_known}
 use Rattle.caller_facts.specs.section_runs.proofs.Told.{HasStamp, stamp_of}
-use Rattle.caller_facts.specs.section_runs.proofs.Staying.{run_open, still_of, step_learns, step_stays, learns_more}
+use Rattle.caller_facts.specs.section_runs.proofs.Linked.{link_line, link_runs, link_stays, link_known}
+use Rattle.caller_facts.specs.section_runs.proofs.Staying.{run_open, moved_own, step_learns, step_stays, learns_more}
 use Rattle.attempts.specs.Learned.{StoodAtStamp, HasLearned}
 use Rattle.caller_facts.proofs.Knowing.{append_none}
 use Rattle.attempts.proofs.Placing.{tells, IsOn, is_on, quiet_known}
@@ -252,13 +255,65 @@ module _ {T : Type 0} (m : Meaning) (laws : Laws m) (t : TableState T) (limits :
       reached = record { world = opened.inside.inside.world; reached = opened.inside.inside.reached; own = opened.inside.inside.own };
     }
 
+  -- a step by which it links a block tells it nothing, and leaves it where it stood
+  module _ (a b : RunnerState T) (own : IsOf t a) (q : RunState) (found : ℕ) (link : LinkStepped m q found a b) (is : IsTelling a) where
+    still : Stays a b
+    still = link_stays m a b q found link
+
+    along_linked : (y : RunState) → IsRunning m b y → IsAlong b y is.learns.more
+    along_linked y runs =
+        let same = link_line m a b q found link y runs.inside.running in
+        let here = is.along q link.running in
+        record {
+          descriptor = ap (λ (z : RunState). z.descriptor) same ∙ here.descriptor;
+          thunk_is = ap (λ (z : RunState). thunk_of z.opened) same ∙ here.thunk_is;
+          published = still.published ∙ here.published;
+          finished = still.finished ∙ here.finished;
+          passed = λ i exchange low. here.passed i exchange (subst (λ (z : RunState). i < z.at) same low);
+          told = λ some. let at = here.told some in (at.0, at.1, subst (λ (z : RunState). at.0 < z.at) (sym same) at.2);
+          rests = ap (λ (l : Layout). settles m l y) still.layout
+              ∙ (ap (settles m a.layout) same ∙ (ap (λ (z : RunState). with_links z y) here.rests ∙ sym same));
+        }
+
+    pub link_tells : IsTelling b
+    link_tells = record {
+      layout = still.layout ∙ is.layout;
+      requests = still.requests ∙ is.requests;
+      number = still.number ∙ is.number;
+      learns = record {
+        more = is.learns.more;
+        adds = link_known m a b q found link (run_open m laws t limits allowed a own q link.running) ∙ is.learns.adds;
+        only = is.learns.only;
+      };
+      stood = is.stood;
+      along = along_linked;
+      reached = record { world = link.event.shown.world; reached = link.event.shown.reached; own = link.event.shown.own };
+    }
+
+  -- a step of either kind
+  moved_tells : (a b : RunnerState T) → IsOf t a → (q : RunState) (found : ℕ) → Moved m q found a b → IsTelling a → IsTelling b
+  moved_tells a b own q found (inl step) is = step_tells a b own q step.0 found step.1 is
+  moved_tells a b own q found (inr link) is = link_tells a b own q found link is
+
+  pub moved_stays : (a b : RunnerState T) → IsOf t a → (q : RunState) (found : ℕ) → Moved m q found a b → (y : RunState) → b.part.run ≡ Some y → Stays a b
+  moved_stays a b own q found (inl step) y runs = step_stays m laws t limits allowed a b own q step.0 found step.1 y runs
+  moved_stays a b own q found (inr link) y runs = link_stays m a b q found link
+
   -- so many steps further
   pub ran_tells : (n : ℕ) (a b : RunnerState T) → IsOf t a → Ran m n a b → IsTelling a → IsTelling b
   ran_tells zero a b own same is = subst IsTelling (sym same) is
-  ran_tells (suc n) a b own ran is = ran_tells n ran.0 b (still_of m laws t limits allowed a ran.0 own ran.1 ran.2 ran.3 ran.4) ran.5
-      (step_tells a ran.0 own ran.1 ran.2 ran.3 ran.4 is)
+  ran_tells (suc n) a b own ran is = ran_tells n ran.0 b (moved_own m laws t limits allowed a ran.0 own ran.1 ran.2 ran.3) ran.4 (moved_tells a ran.0 own ran.1 ran.2 ran.3 is)
 
   -- the last one of them
+  pub record HasLastMove (b : RunnerState T) : Type 0 where
+    pub before : RunnerState T
+    pub own : IsOf t before
+    pub run : RunState
+    pub found : ℕ
+    pub moved : Moved m run found before b
+    pub telling : IsTelling before
+
+  -- and where that was one of its line
   pub record HasLastStep (b : RunnerState T) : Type 0 where
     pub before : RunnerState T
     pub own : IsOf t before
@@ -268,31 +323,37 @@ module _ {T : Type 0} (m : Meaning) (laws : Laws m) (t : TableState T) (limits :
     pub step : Stepped m run micro found before b
     pub telling : IsTelling before
 
-  pub ran_last : (n : ℕ) (a b : RunnerState T) → IsOf t a → Ran m (suc n) a b → IsTelling a → HasLastStep b
+  pub ran_last : (n : ℕ) (a b : RunnerState T) → IsOf t a → Ran m (suc n) a b → IsTelling a → HasLastMove b
   ran_last zero a b own ran is = record {
     before = a;
     own = own;
     run = ran.1;
-    micro = ran.2;
-    found = ran.3;
-    step = subst (Stepped m ran.1 ran.2 ran.3 a) (sym ran.5) ran.4;
+    found = ran.2;
+    moved = subst (λ (y : RunnerState T). Moved m ran.1 ran.2 a y) (sym ran.4) ran.3;
     telling = is;
   }
-  ran_last (suc n) a b own ran is = ran_last n ran.0 b (still_of m laws t limits allowed a ran.0 own ran.1 ran.2 ran.3 ran.4) ran.5
-      (step_tells a ran.0 own ran.1 ran.2 ran.3 ran.4 is)
+  ran_last (suc n) a b own ran is = ran_last n ran.0 b (moved_own m laws t limits allowed a ran.0 own ran.1 ran.2 ran.3) ran.4 (moved_tells a ran.0 own ran.1 ran.2 ran.3 is)
+
+  -- the one behind which the run is over was no link
+  pub last_step : (b : RunnerState T) → HasLastMove b → b.part.run ≡ None → HasLastStep b
+  last_step b last over = by last.moved
+    where
+      by : Moved m last.run last.found last.before b → HasLastStep b
+      by (inl step) = record { before = last.before; own = last.own; run = last.run; micro = step.0; found = last.found; step = step.1; telling = last.telling }
+      by (inr link) = absurd (link_runs m last.before b last.run last.found link over)
 
 module _ {T : Type 0} where
   -- the runner of a run is of its table from the run's beginning on
   pub ran_back : (m : Meaning) (t : TableState T) (n : ℕ) (a b : RunnerState T) → Ran m n a b → IsOf t b → IsOf t a
   ran_back m t zero a b same own = subst (IsOf t) same own
   ran_back m t (suc n) a b ran own =
-      let made = ran.4.event.made in
-      let there = ran_back m t n ran.0 b ran.5 own in
+      let same = moved_same m ran.1 ran.2 a ran.0 ran.3 in
+      let there = ran_back m t n ran.0 b ran.4 own in
       record {
-        table = ap (λ (y : RunnerState T). y.table) (sym made) ∙ there.table;
-        structure = ap (λ (y : RunnerState T). y.structure) (sym made) ∙ there.structure;
-        layout = ap (λ (y : RunnerState T). y.layout) (sym made) ∙ there.layout;
-        requests = ap (λ (y : RunnerState T). y.requests) (sym made) ∙ there.requests;
+        table = ap (λ (y : RunnerState T). y.table) (sym same) ∙ there.table;
+        structure = ap (λ (y : RunnerState T). y.structure) (sym same) ∙ there.structure;
+        layout = ap (λ (y : RunnerState T). y.layout) (sym same) ∙ there.layout;
+        requests = ap (λ (y : RunnerState T). y.requests) (sym same) ∙ there.requests;
         limits = there.limits;
         allowed = there.allowed;
       }

@@ -34,6 +34,8 @@ use Rattle.version_words.specs.Events.{IsMade}
 use Rattle.caller_facts.specs.lock_walks.specs.runner_facts.specs.next_steps.specs.Rooms.{cell_count}
 use Rattle.caller_facts.specs.epoch_slots.specs.Entries.{KeepsOwn, HasLeave}
 use Rattle.caller_facts.specs.section_runs.specs.commit_log.proofs.Asked.{asked_none}
+use Rattle.caller_facts.specs.section_runs.specs.Bodies.{body_blocks}
+use Rattle.caller_facts.specs.section_runs.proofs.Blocks.{run_few}
 use Rattle.caller_facts.specs.try_lock.specs.declared.section.Section.{Section}
 use Rattle.caller_facts.specs.try_lock.specs.declared.planned.Planned.TheVariants as plans
 use Rattle.caller_facts.specs.try_lock.specs.Planning.{Planning}
@@ -49,6 +51,7 @@ use Rattle.attempts.specs.Rests.{MayLeave, MayLetGo, MayLearn, HasLearnt, HasTur
 use Rattle.attempts.specs.declared.answers.Attempt.{Attempt}
 use Rattle.attempts.specs.declared.answers.Attempt.TheVariants as answers
 use Rattle.caller_facts.proofs.Knowing.{front_same, front_on, knows_same, knows_on, own_on, no_other_on, no_other_same}
+use Rattle.caller_facts.specs.try_lock.proofs.Blocks.{for_other}
 use Rattle.attempts.proofs.Leaving.{ended_hand}
 use Rattle.caller_facts.proofs.Counting.{counted_steps}
 use Rattle.attempts.proofs.LettingGo.{gone_leave, gone_hand}
@@ -280,6 +283,10 @@ module _ {T : Type 0} (m : Meaning) (laws : Laws m) (t : TableState T) (limits :
         hand = hand;
         watch = λ place word named. left_may_watch place word named taken;
         reserve = subst (λ (n : NodesState). 2 ≤ length n.free) (sym (kept.nodes ∙ is.ends.left_nodes other)) is.tries.nodes;
+        -- its own run may have linked some blocks before it left
+        blocks = (let had = for_other (length is.published.part.blocks.free) (length ran.part.blocks.free) (length is.ends.blocks.won) (body_blocks (m.body thunk))
+            is.tries.blocks is.ends.blocks.free is.ends.blocks.few (run_few (m.body thunk) planned_is.shape) in
+            let more = kept.blocks in omega (arith, had, more));
         met = λ place word named. inr (left_by place word named gone (ap (λ fs. slice_get fs place_kept) kept.finished ∙ run_kept));
       }
 

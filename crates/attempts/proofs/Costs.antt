@@ -17,6 +17,7 @@ use Rattle.version_words.specs.RunnerState.{RunnerState}
 use Rattle.version_words.specs.TableState.{TableState, IsOf}
 use Rattle.caller_facts.specs.section_runs.specs.Reached.{run_of, run_or}
 use Rattle.caller_facts.specs.section_runs.specs.Opened.{opening, IsOpening, HasOpened}
+use Rattle.caller_facts.specs.section_runs.proofs.Blocks.{no_links}
 use Rattle.caller_facts.specs.section_runs.proofs.Going.{shaped}
 use Rattle.caller_facts.specs.try_lock.specs.Ends.{EndsSo, IsCutShort}
 use Rattle.attempts.specs.Attempts.{most_of_run}
@@ -36,9 +37,10 @@ module _ {T : Type 0} (m : Meaning) (laws : Laws m) (t : TableState T) (limits :
       → made ≤ most_of_run
   ended_costs d thunk outcome trail made ends =
       let few = ends.few in
-      let cost = shaped_cost (m.body thunk)
-      (opened_shaped d thunk trail.late ends.opened (ran_back m t ends.count ends.opened new ends.ran own) ends.opening) in
-      omega (arith, few, cost)
+      let shape = opened_shaped d thunk trail.late ends.opened (ran_back m t ends.count ends.opened new ends.ran own) ends.opening in
+      let cost = shaped_cost (m.body thunk) shape in
+      let links = no_links (m.body thunk) shape in
+      omega (arith, few, cost, links)
 
   opening_costs : (made d : ℕ) (words : List ℕ) → IsOpening m made d words old new → made ≤ most_of_run
   opening_costs zero d words is = omega arith
@@ -53,6 +55,7 @@ module _ {T : Type 0} (m : Meaning) (laws : Laws m) (t : TableState T) (limits :
   cut_costs d made (inl opening) = opening_costs made d opening.0 opening.1
   cut_costs d made (inr ran) =
       let few = ran.few in
-      let cost = shaped_cost (m.body ran.thunk)
-      (opened_shaped d ran.thunk ran.late ran.opened (ran_back m t ran.count ran.opened new ran.ran own) ran.opening) in
-      omega (arith, few, cost)
+      let shape = opened_shaped d ran.thunk ran.late ran.opened (ran_back m t ran.count ran.opened new ran.ran own) ran.opening in
+      let cost = shaped_cost (m.body ran.thunk) shape in
+      let links = no_links (m.body ran.thunk) shape in
+      omega (arith, few, cost, links)

@@ -1,6 +1,6 @@
 -- How far an attempt came, and what it may do there.
 use Rattle.std.specs.Prelude.{◌==◌, ◌&&◌, not, cond, Bool, true, false, slice_get, Ok, Err, if◌then◌else◌}
-use Rattle.std.proofs.Common.{◌≡◌, ℕ, ◌-◌, ◌<◌, ◌≤◌, [], ◌∷◌, ◌++◌, length, inl, refl, sym, ap, ◌∙◌, subst, Option, Some, None}
+use Rattle.std.proofs.Common.{◌≡◌, ℕ, ◌-◌, ◌<◌, ◌≤◌, [], ◌∷◌, ◌++◌, length, inl, refl, sym, ap, ◌∙◌, subst, arith, Option, Some, None}
 use Rattle.section_lines.specs.small_lemmas.proofs.Numbers.{self_tested as same_test}
 use Rattle.machine_states.specs.map_history.specs.declared.op.Request.{Request}
 use Rattle.machine_states.specs.body_terms.specs.Trail.{Agreed}
@@ -38,6 +38,7 @@ use Rattle.caller_facts.specs.lock_walks.specs.runner_facts.specs.next_steps.spe
 use Rattle.attempts.specs.Course.{of_refusal, HasPlanned, HasTried, HasEnded}
 use Rattle.attempts.specs.Rests.{MayLeave, MayLetGo}
 use Rattle.attempts.specs.declared.answers.Attempt.TheVariants as answers
+use Rattle.caller_facts.specs.try_lock.proofs.Blocks.{for_one}
 use Rattle.attempts.proofs.Leaving.{ended_at}
 use Rattle.attempts.proofs.LettingGo.{gone_leave, gone_hand}
 
@@ -109,6 +110,7 @@ module _ {T : Type 0} (m : Meaning) (planning : Planning) (request : Request) (o
       at = tried_at;
       section = published.section;
       reserve = is.nodes;
+      blocks = for_one (length r.part.blocks.free) is.blocks;
       reached = is.publishes.reached;
     }
 
@@ -154,6 +156,7 @@ module _ {T : Type 0} (m : Meaning) (planning : Planning) (request : Request) (o
             leave = leave;
             hand = gone_hand m found r u goes refused_go is.hand;
             reserve = subst (λ (n : NodesState). 2 ≤ length n.free) (sym kept.nodes) is.nodes;
+            blocks = (let had = for_one (length r.part.blocks.free) is.blocks in let more = kept.blocks in omega (arith, had, more));
             watch = λ place word named.
                 let h = cause place word named in record {
                   epoch = leave.epoch;

@@ -201,6 +201,7 @@ module _ {T : Type 0} (m : Meaning) (place word : ℕ) (same : Bool) (old watchi
     names = (may.watch place word refl).names;
     sure = watched.sure e;
     reserve = subst (λ (n : NodesState). 2 ≤ length n.free) (sym watched.keeps.nodes) may.reserve;
+    blocks = (let had = may.blocks in let more = watched.keeps.blocks in omega (arith, had, more));
     reached = watched.reached;
   }
 

@@ -1,5 +1,5 @@
 -- The plan of an attempt.
-use Rattle.std.proofs.Common.{◌≡◌, ℕ, ◌≤◌, length, sym, ap, ◌∙◌, subst}
+use Rattle.std.proofs.Common.{◌≡◌, ℕ, ◌≤◌, length, sym, ap, ◌∙◌, subst, arith}
 use Rattle.machine_states.specs.map_history.specs.declared.op.Request.{Request}
 use Rattle.runner_gate.specs.Asks.{Asks}
 use Rattle.machine_states.specs.structure_laws.specs.Meaning.{Meaning}
@@ -37,5 +37,6 @@ planned_of m planning request old r enters answer new halts halts' asks asks' st
   has = record {
     nodes = subst (λ (n : NodesState). 2 ≤ length n.free) (sym is.walked.keeps.nodes) enters.has.nodes;
     descriptors = subst (λ (d : DescriptorsState). 1 ≤ length d.free) (sym is.walked.keeps.descriptors) enters.has.descriptors;
+    blocks = (let had = enters.has.blocks in let more = is.walked.keeps.blocks in omega (arith, had, more));
   };
 }

@@ -20,15 +20,15 @@ use Rattle.machine_facts.specs.machine_invariant.specs.Sections.{IsAnswered, IsL
 use Rattle.version_words.specs.RunnerState.{RunnerState}
 use Rattle.version_words.specs.TableState.{TableState, IsOf}
 use Rattle.caller_facts.specs.section_runs.specs.commit_log.specs.Runs.{Ran, Stepped}
+use Rattle.caller_facts.specs.section_runs.specs.commit_log.proofs.Running.{moved_running}
 use Rattle.caller_facts.specs.section_runs.specs.Opened.{IsOpening}
-use Rattle.caller_facts.specs.section_runs.proofs.Staying.{step_stays}
 use Rattle.caller_facts.specs.section_runs.proofs.Told.{answered_told}
 use Rattle.caller_facts.specs.try_lock.specs.Reached.{IsReached}
 use Rattle.caller_facts.specs.try_lock.specs.Ends.{EndsSo, RanShort, IsCutShort}
 use Rattle.attempts.specs.Learned.{HasLearned, IsCut}
 use Rattle.caller_facts.proofs.Knowing.{append_none}
 use Rattle.attempts.proofs.Placing.{IsLast, is_last}
-use Rattle.attempts.proofs.Along.{IsAlong, IsTelling, telling_learned, opened_tells, ran_tells, HasLastStep, ran_last, ran_back}
+use Rattle.attempts.proofs.Along.{IsAlong, IsTelling, telling_learned, opened_tells, moved_stays, ran_tells, HasLastMove, HasLastStep, ran_last, last_step, ran_back}
 use Rattle.attempts.proofs.LastSteps.{last_same, last_quiet, last_left}
 
 module _ {T : Type 0} (m : Meaning) (laws : Laws m) (t : TableState T) (limits : IsWithinLimits t.layout) (allowed : AreAllowed t.requests)
@@ -103,7 +103,7 @@ module _ {T : Type 0} (m : Meaning) (laws : Laws m) (t : TableState T) (limits :
     -- its last step
     last_by : (n : ℕ) → Ran m n ends.opened new → HasLastStep m laws t limits allowed old d thunk new
     last_by zero same = absurd (none_some _ (sym (ap (λ (y : RunnerState T). y.part.run) same ∙ ends.opening.run) ∙ ends.resting))
-    last_by (suc n) ran = ran_last m laws t limits allowed old d thunk n ends.opened new opened_own ran opened_telling
+    last_by (suc n) ran = last_step m laws t limits allowed old d thunk new (ran_last m laws t limits allowed old d thunk n ends.opened new opened_own ran opened_telling) ends.resting
 
     pub ended_end : IsAtEnd d thunk
     ended_end = record { last = last_by ends.count ends.ran; resting = ends.resting }
@@ -180,15 +180,15 @@ module _ {T : Type 0} (m : Meaning) (laws : Laws m) (t : TableState T) (limits :
         finished = ap (λ (y : RunnerState T). y.part.records.finished) same ∙ short.opening.stays.finished;
       }
 
-      last_on : HasLastStep m laws t limits allowed old d short.thunk new → IsOn ⊎ IsAtEnd d short.thunk
+      last_on : HasLastMove m laws t limits allowed old d short.thunk new → IsOn ⊎ IsAtEnd d short.thunk
       last_on last = by new.part.run refl
         where
           by : (o : Option RunState) → new.part.run ≡ o → IsOn ⊎ IsAtEnd d short.thunk
           by (Some y) runs =
-              let stays = step_stays m laws t limits allowed last.before new last.own last.run last.micro last.found last.step y runs in
-              let there = last.telling.along last.run last.step.running in
+              let stays = moved_stays m laws t limits allowed old d short.thunk last.before new last.own last.run last.found last.moved y runs in
+              let there = last.telling.along last.run (moved_running m last.run last.found last.before new last.moved) in
               inl (record { published = stays.published ∙ there.published; finished = stays.finished ∙ there.finished })
-          by None rests = inr (record { last = last; resting = rests })
+          by None rests = inr (record { last = last_step m laws t limits allowed old d short.thunk new last rests; resting = rests })
 
       ran_on : (n : ℕ) → Ran m n short.opened new → IsOn ⊎ IsAtEnd d short.thunk
       ran_on zero same = inl (none_on same)

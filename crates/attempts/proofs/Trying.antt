@@ -53,6 +53,7 @@ tried_of m planning request old readings thunk r is answer new publishes layout 
     looked = publishes.looked ∙ is.hand.looked;
   };
   nodes = subst (λ (n : NodesState). 2 ≤ length n.free) (sym publishes.nodes) is.has.nodes;
+  blocks = (let had = is.has.blocks in let more = publishes.blocks in omega (arith, had, more));
 }
 
 -- the rest from an earlier runner that knew the same

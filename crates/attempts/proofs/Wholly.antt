@@ -15,6 +15,7 @@ use Rattle.machine_states.specs.structure_laws.specs.Meaning.{Meaning}
 use Rattle.machine_states.specs.structure_laws.specs.Cells.{slots}
 use Rattle.machine_states.specs.structure_laws.specs.Laws.{Laws}
 use Rattle.machine_states.specs.structure_laws.proofs.Pairs.{pair_read}
+use Rattle.machine_states.specs.guard_core.specs.State.{most_linked}
 use Rattle.machine_states.specs.epoch_core.specs.declared.stage.Stage.TheVariants as stages
 use Rattle.machine_states.specs.runner_parts.specs.Tests.{has_pair, is_answered}
 use Rattle.machine_states.specs.runner_parts.specs.State.{NodesState, DescriptorsState, ReadsState}
@@ -49,7 +50,8 @@ use Rattle.attempts.specs.declared.answers.Attempt.{Attempt}
 use Rattle.attempts.specs.declared.answers.Attempt.TheVariants as answers
 use Rattle.caller_facts.proofs.Knowing.{knows_same, knows_on, no_other_same, no_other_on}
 use Rattle.attempts.proofs.Reaching.{enters_reached}
-use Rattle.attempts.proofs.Refilling.{short_reached, short_named, short_lost}
+use Rattle.caller_facts.specs.try_lock.proofs.Blocks.{for_one}
+use Rattle.attempts.proofs.Refilling.{short_reached, short_named, short_kept, short_lost}
 use Rattle.caller_facts.proofs.Counting.{counted_steps, asked_then, steps_then, seen_then}
 use Rattle.attempts.proofs.Held.{read_within, read_few}
 use Rattle.caller_facts.specs.try_lock.proofs.Guarding.{guard_keeps, guard_reads}
@@ -309,6 +311,7 @@ module _ {T : Type 0} (m : Meaning) (laws : Laws m) (t : TableState T) (limits :
       leave = planned_leave m planning request old planned.readings answer r course;
       hand = course.hand;
       reserve = course.has.nodes;
+      blocks = for_one (length r.part.blocks.free) course.has.blocks;
       watch = λ place word named.
           let h = busy place word named in
           let at = planned_at m planning request old planned.readings answer r course in record {
@@ -377,6 +380,8 @@ module _ {T : Type 0} (m : Meaning) (laws : Laws m) (t : TableState T) (limits :
       counts = counts;
       named = λ kind. subst (λ (x : Short). x.limbo ≤ ready.layout.runners) (sym (counts ∙ ap (counts_of ready) kind))
           (short_named m old ready (subst (IsFew ready) kind few).1 reclaims);
+      kept = λ kind. subst (λ (x : Short). x.limbo ≤ most_linked * ready.layout.runners) (sym (counts ∙ ap (counts_of ready) kind))
+          (short_kept m old ready (subst (IsFew ready) kind few).2 reclaims);
       board = λ kind. ap (λ (x : Short). x.board) (counts ∙ ap (counts_of ready) kind) ∙ short_lost m old ready reclaims (subst (IsFew ready) kind few);
       untouched = untouched m laws ready request (subst IsWithinLimits (sym own_ready.layout) limits) (subst AreAllowed (sym own_ready.requests) allowed)
           (short_reached m old ready short.kind few reclaims) reclaims.rested.tidy.at.published reclaims.rested.tidy.at.settled
@@ -429,6 +434,7 @@ module _ {T : Type 0} (m : Meaning) (laws : Laws m) (t : TableState T) (limits :
       has = record {
         nodes = subst (λ (n : NodesState). 2 ≤ length n.free) (sym enters.keeps.nodes) reserve.nodes;
         descriptors = subst (λ (d : DescriptorsState). 1 ≤ length d.free) (sym enters.keeps.descriptors) reserve.descriptors;
+        blocks = (let had = reserve.blocks in let more = enters.keeps.blocks in omega (arith, had, more));
       };
     }
 

@@ -9,10 +9,12 @@ use Rattle.machine_states.specs.body_terms.specs.Word.{value_of}
 use Rattle.machine_states.specs.body_terms.specs.declared.outcome.Outcome.TheVariants.{Answered}
 use Rattle.machine_states.specs.body_terms.specs.declared.thunk.Thunk.{Thunk}
 use Rattle.runner_gate.specs.Asks.{Asks, asked_on}
+use Rattle.machine_states.specs.table_words.specs.Places.{attempt_blocks}
 use Rattle.machine_states.specs.structure_laws.specs.Scene.{Readings}
 use Rattle.machine_states.specs.structure_laws.specs.Meaning.{Meaning}
 use Rattle.machine_states.specs.structure_laws.specs.Cells.{slots}
 pub use Rattle.machine_states.specs.structure_laws.specs.Shape.{most_of_run}
+use Rattle.machine_states.specs.guard_core.specs.State.{most_linked}
 use Rattle.machine_states.specs.runner_parts.specs.declared.entries.Known.{Known}
 use Rattle.machine_states.specs.runner_parts.specs.declared.entries.Published.{Published}
 use Rattle.machine_states.specs.runner_parts.specs.State.{FinishedState}
@@ -81,13 +83,16 @@ module _ {T : Type 0} where
     pub few_steps : made ≤ steps
     pub few_runs : length new.part.records.finished ≤ length old.part.records.finished + runs
 
-  -- fewer than an attempt needs of this kind are free; node slots are asked for first
+  -- fewer than an attempt may need of this kind are free; node slots are asked for first, and blocks last
   abbrev pub IsFew : RunnerState T → Kind → Type 0
   IsFew r kinds.Node = length r.part.nodes.free < 2
   IsFew r kinds.Descriptor = (2 ≤ length r.part.nodes.free) × (length r.part.descriptors.free ≡ 0)
+  IsFew r kinds.Block = (2 ≤ length r.part.nodes.free) × (1 ≤ length r.part.descriptors.free)
+      × (length r.part.blocks.free < attempt_blocks)
 
   module _ (m : Meaning) where
-    -- after three scans in a row and a walk over the board too few node slots were free, or after a sweep no descriptor
+    -- after three scans in a row and a walk over the board too few node slots were free, or after a sweep no descriptor,
+    -- or too few blocks
     pub record IsShort (short : Short) (number : ℕ) (old new : RunnerState T) : Type 0 where
       pub reclaims : Reclaims m old new
       pub few : IsFew new short.kind
@@ -97,6 +102,9 @@ module _ {T : Type 0} where
       -- where a descriptor lacks, guard words of other runners name all of the runner's own: they are no more than
       -- there are runners. So a runner that has one more of them never lacks one
       pub named : short.kind ≡ kinds.Descriptor → short.limbo ≤ new.layout.runners
+      -- and where blocks lack, they name the descriptors under which those lie that aren't free: each keeps as many as
+      -- one log has at most. So such a runner never lacks blocks either
+      pub kept : short.kind ≡ kinds.Block → short.limbo ≤ most_linked * new.layout.runners
       pub untouched : IsUntouched m number new
 
     -- the runner ran the section that this lock's word named to its end, and left. It is the section of

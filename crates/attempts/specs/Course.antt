@@ -9,6 +9,7 @@ use Rattle.machine_states.specs.body_terms.specs.declared.outcome.Outcome.TheVar
 use Rattle.machine_states.specs.body_terms.specs.declared.outcome.Refused.{Refused}
 use Rattle.machine_states.specs.body_terms.specs.declared.outcome.Refused.TheVariants as refusals
 use Rattle.machine_states.specs.body_terms.specs.declared.thunk.Thunk.{Thunk}
+use Rattle.machine_states.specs.table_words.specs.Places.{attempt_blocks}
 use Rattle.machine_states.specs.structure_laws.specs.Scene.{Readings}
 use Rattle.machine_states.specs.structure_laws.specs.Meaning.{Meaning}
 use Rattle.machine_states.specs.Sight.{sight}
@@ -58,10 +59,11 @@ of_outcome (outcomes.Spent place word) = answers.Spent place word
 of_outcome (outcomes.Answered reply) = answers.Halted
 
 module _ {T : Type 0} where
-  -- what an attempt needs of own slots is free
+  -- what an attempt may need of own slots is free
   pub record HasReserve (r : RunnerState T) : Type 0 where
     pub nodes : 2 ≤ length r.part.nodes.free
     pub descriptors : 1 ≤ length r.part.descriptors.free
+    pub blocks : attempt_blocks ≤ length r.part.blocks.free
 
   -- no slot is in the hand or half looked at, and no sweep is in progress
   pub record IsEmptyHanded (r : RunnerState T) : Type 0 where
@@ -70,8 +72,8 @@ module _ {T : Type 0} where
     pub looked : r.part.guards.looked ≡ []
 
 module _ {T : Type 0} (m : Meaning) (planning : Planning) (request : Request) where
-  -- the runner collected and used the board where that was due, had a reserve of two node slots and one descriptor, and
-  -- entered
+  -- the runner collected, swept and used the board where that was due, had a reserve of two node slots, one descriptor
+  -- and the blocks for two logs, and entered
   pub record HasEntered (old new : RunnerState T) : Type 0 where
     pub may : MayAttempt planning request old
     pub ready : RunnerState T
@@ -103,6 +105,7 @@ module _ {T : Type 0} (m : Meaning) (planning : Planning) (request : Request) wh
     pub still : IsStill old new
     pub hand : IsEmptyHanded new
     pub nodes : 2 ≤ length new.part.nodes.free
+    pub blocks : attempt_blocks ≤ length new.part.blocks.free
 
   -- the section was published, and run to its end with this outcome and this trail
   pub record HasEnded (section : Section) (thunk : Thunk) (outcome : Outcome) (trail : Agreed)

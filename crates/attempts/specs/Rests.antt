@@ -15,7 +15,7 @@ use Rattle.caller_facts.specs.epoch_slots.specs.Collects.{IsTidy}
 use Rattle.caller_facts.specs.epoch_slots.specs.Entries.{HasLeave}
 use Rattle.caller_facts.specs.section_runs.specs.commit_log.specs.Asked.{IsAsked}
 use Rattle.caller_facts.specs.try_lock.specs.Planning.{Planning}
-use Rattle.caller_facts.specs.try_lock.specs.Reached.{IsReached}
+use Rattle.caller_facts.specs.try_lock.specs.Reached.{IsReached, run_blocks}
 use Rattle.caller_facts.specs.try_lock.specs.Watches.{MayWatch, Watched}
 use Rattle.caller_facts.specs.try_lock.specs.Ends.{IsCutShort}
 use Rattle.lock_words.specs.Taken.{HasLeftBy}
@@ -41,6 +41,7 @@ module _ {T : Type 0} (m : Meaning) where
     pub hand : IsEmptyHanded r
     pub watch : (place word : ℕ) → answer ≡ answers.Busy place word → MayWatch m place word r
     pub reserve : 2 ≤ length r.part.nodes.free
+    pub blocks : run_blocks ≤ length r.part.blocks.free
     -- it has read the word of this lock since it entered, or its own section left by it
     pub met : (place word : ℕ) → answer ≡ answers.Busy place word
         → (has_pair r.part.reads.cells place word ≡ true) ⊎ HasLeftBy r.part place word

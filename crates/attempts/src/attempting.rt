@@ -54,10 +54,9 @@ pub fn plan_and_try<S: Planner, G: Gate, L>(
 /// Attempts a request once.
 ///
 /// The runner collects and sweeps where it has to, gives node slots to the board or takes some there, makes sure of two
-/// node slots and one descriptor, enters, plans the request's section, publishes it in its lock, runs it, lets its guard
-/// go and leaves. The request is one of the
-/// table's, of a trace that this runner serves; the runner knows the answers of the trace's earlier requests and not
-/// yet this one's; it is idle, with an empty hand.
+/// node slots, one descriptor and the blocks for two logs, enters, plans the request's section, publishes it in its
+/// lock, runs it, lets its guard go and leaves. The request is one of the table's, of a trace that this runner serves;
+/// the runner knows the answers of the trace's earlier requests and not yet this one's; it is idle, with an empty hand.
 ///
 /// - `Done`: the own section answered. The request stands once in the one history, with this stamp, which is above
 ///   those of all requests that were answered as the attempt began, by whomever, and with this reply; its stamp word
@@ -69,7 +68,9 @@ pub fn plan_and_try<S: Planner, G: Gate, L>(
 /// - `Far`: the walk loaded as many links as there are node slots, and eight more, and came to no end.
 /// - `Spent`: a lock or a cell has too few versions left.
 /// - `Short`: after three scans in a row and a walk over the board fewer than two node slots were free, or after a sweep
-///   no descriptor, since guard words of other runners name all that are in limbo; node slots are asked first.
+///   no descriptor, since guard words of other runners name all that are in limbo, or fewer blocks than the logs of its
+///   own section and of one that it helps may want, since they keep the others; node slots are asked first, and blocks
+///   last.
 /// - `Halted`: the gate halted the runner. Exactly then its count of halts rose.
 ///
 /// After every answer but `Halted` the runner is idle and may attempt again. After every answer but `Done` and `Halted`

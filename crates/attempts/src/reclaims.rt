@@ -3,10 +3,11 @@
 ghost use Rattle.std.specs.Prelude.{◌≡◌, ◌<◌};
 ghost use Rattle.version_words.specs.TableState.{IsOf};
 ghost use Rattle.caller_facts.specs.epoch_slots.specs.Collects.{IsTidy, Collects};
-ghost use Rattle.attempts.specs.Reclaims.{is_much, lacks_slots, lacks_descriptor, has_much_in_limbo, CollectsWhere, SparesWhere, SweepsWhere, Reclaims, IsRested};
+ghost use Rattle.attempts.specs.Reclaims.{is_much, lacks_slots, needs_sweep, has_much_in_limbo, CollectsWhere, SparesWhere, SweepsWhere, Reclaims, IsRested};
 
 use caller_facts::lock_walks::epoch_slots::{collect, draw, spare, sweep};
 use machine_states::structure_laws::Structure;
+use machine_states::table_words::ATTEMPT_BLOCKS;
 use version_words::{FlockTable, Runner};
 
 /// Up to so many node slots in limbo a quarter of a worker's own ones is many; from then on their number has to double
@@ -99,16 +100,25 @@ fn refill<S: Structure>(table: &FlockTable<S>, runner: Runner<S>) -> Runner<S>
     collect_where(table, runner, lacking)
 }
 
-/// One sweep where no descriptor is free.
+/// Whether no descriptor is free, or fewer blocks than an attempt may want. As long as that is none, only the first is
+/// looked at.
 #[inline(always)]
-fn sweep_where_none<S: Structure>(table: &FlockTable<S>, runner: Runner<S>) -> Runner<S>
+fn needs_sweep<S: Structure>(runner: &Runner<S>) -> bool
+    ensures { result ≡ needs_sweep runner.now }
+{
+    runner.free_descriptors().is_empty() || runner.free_blocks().len() < ATTEMPT_BLOCKS
+}
+
+/// One sweep where a descriptor lacks, or blocks.
+#[inline(always)]
+fn sweep_where_lacking<S: Structure>(table: &FlockTable<S>, runner: Runner<S>) -> Runner<S>
     requires own { IsOf table.now runner }
     requires tidy { IsTidy runner }
     ensures own { IsOf table.now result }
-    ensures sweeps { SweepsWhere (S.meaning table.now.structure) (lacks_descriptor runner) runner result }
+    ensures sweeps { SweepsWhere (S.meaning table.now.structure) (needs_sweep runner) runner result }
     ensures rested { IsRested runner result }
 {
-    if runner.free_descriptors().is_empty() {
+    if needs_sweep(&runner) {
         sweep(table, runner)
     } else {
         runner
@@ -117,8 +127,8 @@ fn sweep_where_none<S: Structure>(table: &FlockTable<S>, runner: Runner<S>) -> R
 
 /// Where many node slots are in limbo, collects once, and gives to the board those that are free then above the number
 /// that the layout gives each worker. Then it collects up to three times in a row, as long as fewer than two node slots
-/// are free; sweeps the guard words where no descriptor is free; and takes node slots from the board while fewer than
-/// two are free.
+/// are free; sweeps the guard words where no descriptor is free, or fewer blocks than an attempt may want; and takes
+/// node slots from the board while fewer than two are free.
 ///
 /// Many is a quarter of those that the layout gives each worker, as long as that is fewer than 64; else it is 64, and
 /// again each time that they have doubled.
@@ -145,6 +155,6 @@ pub fn reclaim<S: Structure>(table: &FlockTable<S>, runner: Runner<S>) -> Runner
     let runner = spare_where(table, runner, full);
     let runner = refill(table, runner);
     let runner = refill(table, runner);
-    let runner = sweep_where_none(table, refill(table, runner));
+    let runner = sweep_where_lacking(table, refill(table, runner));
     draw(table, runner, 2)
 }

@@ -6,11 +6,14 @@ ghost use Rattle.attempts.specs.Attempts.{IsFew};
 
 use caller_facts::lock_walks::epoch_slots::{Kind, Short, reserve};
 use machine_states::structure_laws::Structure;
+use machine_states::table_words::ATTEMPT_BLOCKS;
 use version_words::Runner;
 
-/// The runner, if two node slots and one descriptor are free; else the runner and the counts of the kind that
-/// lacks. Node
-/// slots are asked for first. No step is made, and nothing changes.
+/// The runner, if two node slots, one descriptor and the blocks for two logs are free: for that of its own section, and
+/// that of one that it helps. Else the runner and the counts of the kind that lacks; node slots are asked for first, and
+/// blocks last. No step is made, and nothing changes.
+///
+/// Blocks are looked at before they are asked for, so that an attempt makes no call for them: few lack any.
 pub fn reserve_slots<S: Structure>(runner: Runner<S>) -> Result<Runner<S>, (Runner<S>, Short)>
     ensures same { IfOk result (λ x. x ≡ runner) }
     ensures enough { IfOk result (λ x. HasReserve runner) }
@@ -19,5 +22,9 @@ pub fn reserve_slots<S: Structure>(runner: Runner<S>) -> Result<Runner<S>, (Runn
     ensures counts { IfErr result (λ e. e.1 ≡ counts_of runner e.1.kind) }
 {
     let runner = reserve(runner, Kind::Node, 2)?;
-    reserve(runner, Kind::Descriptor, 1)
+    let runner = reserve(runner, Kind::Descriptor, 1)?;
+    if runner.free_blocks().len() >= ATTEMPT_BLOCKS {
+        return Ok(runner);
+    }
+    reserve(runner, Kind::Block, ATTEMPT_BLOCKS as u32)
 }

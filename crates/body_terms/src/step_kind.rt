@@ -15,8 +15,10 @@ pub enum StepKind {
     LoadCell,
     /// A commit of a loaded word.
     Commit,
-    /// A private load or store of a new node's cell.
+    /// A private load or store of a new node's cell, or a store of 0 into a word of a block that is to be linked.
     Private,
+    /// The exchange that links a block.
+    LinkCommit,
     /// The commit of a new node's slot.
     MakeCommit,
     /// A load of the epoch for a retired slot.

@@ -1,4 +1,5 @@
 pub mod Runs
+pub mod Links
 pub mod Committed
 pub mod Asked
 pub mod Halted

@@ -11,8 +11,9 @@ use version_words::{FlockTable, Runner};
 /// one yet. Answers the word that stands there then, by which every run of the section goes, and whether this exchange
 /// put it there.
 ///
-/// The runner has to be in a run whose next step commits a word that it loaded: that of a Load, or the first one of a
-/// Take. The proposal is that word. There is no refusal, and no memory is taken (Ben-David, Blelloch, Wei, 2022).
+/// The runner has to be in a run whose next step commits a word that it loaded, into a part of the log that is linked
+/// (`link_if_due`): that of a Load, or the first one of a Take. The proposal is that word. There is no refusal, and no
+/// memory is taken (Ben-David, Blelloch, Wei, 2022).
 pub fn commit<S: Structure>(
     table: &FlockTable<S>,
     runner: Runner<S>,

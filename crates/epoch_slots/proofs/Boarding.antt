@@ -24,6 +24,7 @@ use Rattle.machine_states.specs.runner_parts.specs.Lists.{without, slot_given, s
 use Rattle.machine_states.specs.runner_steps.specs.Outside.{when}
 use Rattle.machine_states.specs.runner_steps.specs.Board.{may_use, last_read, free_if}
 use Rattle.machine_states.specs.runner_steps.specs.After.{outside_after}
+use Rattle.machine_states.specs.runner_steps.specs.Blocks.{blocks_outside}
 use Rattle.machine_states.specs.epoch_core.specs.Lists.{times}
 use Rattle.machine_states.specs.epoch_core.specs.declared.stage.Stage.TheVariants as stages
 use Rattle.version_words.specs.machine_invariant.specs.After.{AreAllowed}
@@ -34,7 +35,7 @@ use Rattle.version_words.proofs.Asked.{outer}
 use Rattle.version_words.proofs.Bounds.{node_once}
 use Rattle.version_words.proofs.Stages.{enabled, made_at}
 use Rattle.epoch_slots.specs.Board.{MayUseBoard, KeepsAside, TakesSo, GivesSo, Visits, TakesOne, GivesOne, Draws, Spares, HasDrawn, HasSpared, behind}
-use Rattle.epoch_slots.proofs.Outside.{nodes_made, descriptors_made, guards_made, known_made, finished_made}
+use Rattle.epoch_slots.proofs.Outside.{nodes_made, descriptors_made, blocks_made, guards_made, known_made, finished_made}
 
 below : (a b : ℕ) → a < b → nat_lt a b ≡ true
 below a b low = grind (arith, nat_tests)
@@ -71,7 +72,7 @@ one_less (y ∷ xs) x = by (y == x) (one_less xs x)
 
 module _ {T : Type 0} where
   pub aside_none : (r : RunnerState T) → KeepsAside r r
-  aside_none r = record { number = refl; layout = refl; nodes = refl; descriptors = refl; guards = refl; known = refl; finished = refl }
+  aside_none r = record { number = refl; layout = refl; nodes = refl; descriptors = refl; blocks = refl; guards = refl; known = refl; finished = refl }
 
   pub aside_on : (a b c : RunnerState T) → KeepsAside a b → KeepsAside b c → KeepsAside a c
   aside_on a b c one two = record {
@@ -79,6 +80,7 @@ module _ {T : Type 0} where
     layout = two.layout ∙ one.layout;
     nodes = two.nodes ∙ ap (λ (n : NodesState). record n { free = c.part.nodes.free }) one.nodes;
     descriptors = two.descriptors ∙ one.descriptors;
+    blocks = two.blocks ∙ one.blocks;
     guards = two.guards ∙ one.guards;
     known = two.known ∙ one.known;
     finished = two.finished ∙ one.finished;
@@ -115,15 +117,16 @@ module _ {T : Type 0} where
     }
 
     pub keeps_aside : (free : List ℕ) → (outside_after m r.layout k r.part found).nodes ≡ record (r.part.nodes) { free = free }
-        → (outside_after m r.layout k r.part found).descriptors ≡ r.part.descriptors → (outside_after m r.layout k r.part found).guards ≡ r.part.guards
-        → (outside_after m r.layout k r.part found).records.known ≡ r.part.records.known → (outside_after m r.layout k r.part found).records.finished ≡ r.part.records.finished → KeepsAside r r'
-    keeps_aside free nodes descriptors guards known finished =
+        → (outside_after m r.layout k r.part found).descriptors ≡ r.part.descriptors → blocks_outside m r.layout k r.part found ≡ r.part.blocks
+        → (outside_after m r.layout k r.part found).guards ≡ r.part.guards → (outside_after m r.layout k r.part found).records.known ≡ r.part.records.known → (outside_after m r.layout k r.part found).records.finished ≡ r.part.records.finished → KeepsAside r r'
+    keeps_aside free nodes descriptors blocks guards known finished =
         let is : r'.part.nodes ≡ record (r.part.nodes) { free = free } = nodes_made m k found r r' made ready.at.resting ∙ nodes in
         record {
           number = ap (λ (y : RunnerState T). y.number) made.made;
           layout = ap (λ (y : RunnerState T). y.layout) made.made;
           nodes = is ∙ ap (λ (xs : List ℕ). record (r.part.nodes) { free = xs }) (ap (λ (n : NodesState). n.free) (sym is));
           descriptors = descriptors_made m k found r r' made ready.at.resting ∙ descriptors;
+          blocks = blocks_made m k found r r' made ready.at.resting ∙ blocks;
           guards = guards_made m k found r r' made ready.at.resting ∙ guards;
           known = known_made m k found r r' made ready.at.resting ∙ known;
           finished = finished_made m k found r r' made ready.at.resting ∙ finished;
@@ -135,7 +138,7 @@ module _ {T : Type 0} where
     ready_loaded = still_ready m (kinds.BoardLoad word) found r r1 load ready refl refl refl refl refl
 
     aside_loaded : KeepsAside r r1
-    aside_loaded = keeps_aside m (kinds.BoardLoad word) found r r1 load ready r.part.nodes.free refl refl refl refl refl
+    aside_loaded = keeps_aside m (kinds.BoardLoad word) found r r1 load ready r.part.nodes.free refl refl refl refl refl refl
 
     kept_loaded : r1.part.board ≡ record { word = word; read = found; tried = tries.Not } ∷ r.part.board
     kept_loaded = ap (λ (y : RunnerState T). y.part.board) load.made
@@ -222,7 +225,7 @@ module _ {T : Type 0} where
         };
         more = taken_more;
         ready = still_ready m (kinds.BoardTake word found) tried.found r1 r2 tried.event ready_loaded refl refl refl refl refl;
-        keeps = aside_on r r1 r2 aside_loaded (keeps_aside m (kinds.BoardTake word found) tried.found r1 r2 tried.event ready_loaded _ refl refl refl refl refl);
+        keeps = aside_on r r1 r2 aside_loaded (keeps_aside m (kinds.BoardTake word found) tried.found r1 r2 tried.event ready_loaded _ refl refl refl refl refl refl);
       }
 
     -- a slot was to be given
@@ -250,7 +253,7 @@ module _ {T : Type 0} where
         };
         left = leaves (tried.found == 0) (nodes_made m (kinds.BoardGive word slot) tried.found r1 r2 tried.event ready_loaded.at.resting);
         ready = still_ready m (kinds.BoardGive word slot) tried.found r1 r2 tried.event ready_loaded refl refl refl refl refl;
-        keeps = aside_on r r1 r2 aside_loaded (keeps_aside m (kinds.BoardGive word slot) tried.found r1 r2 tried.event ready_loaded _ refl refl refl refl refl);
+        keeps = aside_on r r1 r2 aside_loaded (keeps_aside m (kinds.BoardGive word slot) tried.found r1 r2 tried.event ready_loaded _ refl refl refl refl refl refl);
       }
         where
           leaves : (b : Bool) → r2.part.nodes ≡ free_if b (slot_given r1.part.nodes slot) r1.part.nodes

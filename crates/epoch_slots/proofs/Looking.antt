@@ -20,7 +20,7 @@ use Rattle.machine_states.specs.runner_parts.specs.Tests.{has, is_resting}
 use Rattle.machine_states.specs.runner_parts.specs.Lists.{without, test_of, tests_without, slot_back, slot_tested, one_more, nodes_looked}
 use Rattle.machine_states.specs.runner_steps.specs.AfterOutside.{descriptor_known}
 use Rattle.machine_states.specs.runner_steps.specs.After.{outside_after}
-use Rattle.machine_states.specs.runner_steps.specs.Outside.{when, descriptor_spot}
+use Rattle.machine_states.specs.runner_steps.specs.Outside.{when, blocks_from, descriptor_spot, block_spot}
 use Rattle.machine_states.specs.epoch_core.specs.Lists.{times}
 use Rattle.version_words.specs.RunnerState.{RunnerState}
 use Rattle.version_words.specs.Events.{IsEnabled, Makes}
@@ -144,7 +144,9 @@ module _ {T : Type 0} (m : Meaning) where
         let small : nat_lt cell 5 ≡ true = grind (arith, nat_tests, few) in
         enabled m r (kinds.PrivateLoad slot cell) (spots.Cell (cell_of m.fixed_cells slot cell), Loads) so.at.present so.at.resting
         (ap (λ (b : Bool). if b then when (is_resting r.part.stage r.part.run && (nat_lt cell 5 && (has r.part.nodes.free slot || has r.part.nodes.hand slot))) (spots.Cell (cell_of m.fixed_cells slot cell)) Loads else
-        when (is_resting r.part.stage r.part.run && has r.part.descriptors.free (slot - slot_count r.layout m.fixed_slots)) (descriptor_spot (slot - slot_count r.layout m.fixed_slots) cell) Loads) within
+        (if nat_lt slot (blocks_from m r.layout)
+        then when (is_resting r.part.stage r.part.run && has r.part.descriptors.free (slot - slot_count r.layout m.fixed_slots)) (descriptor_spot (slot - slot_count r.layout m.fixed_slots) cell) Loads
+        else when (is_resting r.part.stage r.part.run && has r.part.blocks.free (slot - blocks_from m r.layout)) (block_spot (slot - blocks_from m r.layout) cell) Loads)) within
         ∙ ap (λ (b : Bool). when b (spots.Cell (cell_of m.fixed_cells slot cell)) Loads)
         ((λ i. is_resting (so.at.at i) (so.at.resting i) && (small i && (has r.part.nodes.free slot || in_hand i))) ∙ either_true (has r.part.nodes.free slot)))
         (let a = low in let b = few in omega (arith, a, b, wide))

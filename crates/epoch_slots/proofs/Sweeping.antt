@@ -1,14 +1,16 @@
 -- A sweep, guard word by guard word.
-use Rattle.std.proofs.Common.{◌≡◌, ℕ, suc, ◌+◌, ◌<◌, ◌≤◌, List, [], ◌∷◌, ◌++◌, length, length-append, le_of_eq, Bool, true, false, refl, sym, ap, subst, ◌∙◌, eq-eqb, ne_eqb, arith, None, if◌then◌else◌}
+use Rattle.std.proofs.Common.{◌≡◌, ℕ, suc, ◌+◌, ◌*◌, ◌<◌, ◌≤◌, List, [], ◌∷◌, ◌++◌, length, length-append, le_of_eq, Bool, true, false, refl, sym, ap, subst, ◌∙◌, eq-eqb, ne_eqb, arith, None, if◌then◌else◌}
 use Rattle.machine_states.specs.map_history.specs.declared.op.Request.{Request}
 use Rattle.machine_states.specs.table_words.specs.Limits.{IsWithinLimits}
 use Rattle.machine_states.specs.table_words.specs.declared.layout.Layout.{Layout}
 use Rattle.machine_states.specs.structure_laws.specs.Laws.{Laws}
 use Rattle.machine_states.specs.structure_laws.specs.Meaning.{Meaning}
 use Rattle.machine_states.specs.runner_parts.specs.declared.event.EventKind.TheVariants as kinds
-use Rattle.machine_states.specs.runner_parts.specs.State.{GuardsState, DescriptorsState, PartState}
-use Rattle.machine_states.specs.runner_parts.specs.Lists.{descriptors_swept, with_looked}
+use Rattle.machine_states.specs.runner_parts.specs.State.{GuardsState, DescriptorsState, BlocksState, PartState}
+use Rattle.machine_states.specs.runner_parts.specs.Lists.{descriptors_swept, blocks_freed, with_looked}
 use Rattle.machine_states.specs.runner_steps.specs.Guards.{is_last_guard, load_guard_after}
+use Rattle.machine_states.specs.guard_core.specs.State.{most_linked}
+use Rattle.machine_states.specs.guard_core.specs.Moves.{is_unnamed}
 use Rattle.machine_states.specs.Sight.{Sight, sight, part_or_first, Steps, IsWhole}
 use Rattle.machine_states.proofs.Reached.{reached_all}
 use Rattle.machine_states.proofs.Sights.{happens_steps}
@@ -22,7 +24,7 @@ use Rattle.version_words.specs.TableState.{TableState, IsOf}
 use Rattle.version_words.specs.Events.{IsEnabled, Makes}
 use Rattle.version_words.proofs.Stages.{may_load_guard, then_looked}
 use Rattle.epoch_slots.specs.Sweeps.{MaySweep, KeepsBeside, Sweeps, HasLooked, HasSwept}
-use Rattle.epoch_slots.proofs.Outside.{nodes_made, descriptors_made, guards_made, known_made, finished_made}
+use Rattle.epoch_slots.proofs.Outside.{nodes_made, descriptors_made, blocks_made, guards_made, known_made, finished_made}
 
 -- what one more guard word makes of a part
 abbrev swept_or : Bool → List ℕ → PartState → PartState
@@ -70,6 +72,13 @@ module _ {T : Type 0} (m : Meaning) (laws : Laws m) (r r' : RunnerState T) (coun
       let here = ap (λ (p : PartState). length p.descriptors.limbo) (ap part_or_first made.shown.own) in
       omega (arith, few, words, here)
 
+  few_blocks_stay : length r'.part.blocks.limbo ≤ most_linked * l.runners
+  few_blocks_stay =
+      let few = exact.few_blocks in
+      let words = exact.words in
+      let here = ap (λ (p : PartState). length p.blocks.limbo) (ap part_or_first made.shown.own) in
+      omega (arith, few, words, here)
+
 module _ {T : Type 0} (m : Meaning) where
   -- one guard word more at the end
   sweeps_more : (found : List ℕ) (next word : ℕ) (r s r' : RunnerState T) → Sweeps m next found r s → Makes m (kinds.LoadGuard (next + length found)) word s r'
@@ -86,6 +95,7 @@ module _ {T : Type 0} (m : Meaning) where
     sweeps = refl;
     at = ready.at;
     descriptors = refl;
+    blocks = refl;
     guards = ap (λ (words : List ℕ). with_looked r.part.guards words) ready.looked;
     keeps = record { number = refl; layout = refl; nodes = refl; known = refl; finished = refl };
   }
@@ -124,16 +134,26 @@ module _ {T : Type 0} (m : Meaning) where
       part_by : (last : Bool) → is_last_guard r.layout r.part.guards.looked ≡ last → load_guard_after r.layout r.part word ≡ swept_or last (so.found ++ word ∷ []) r.part
       part_by last e = (λ i. swept_or (e i) (looked_is i ++ word ∷ []) r.part)
 
+      -- its blocks after it
+      abbrev blocks_by : Bool → List ℕ → BlocksState → BlocksState
+      blocks_by last words b = if last then blocks_freed (is_unnamed words) b else b
+
+      blocks_are : (last : Bool) → is_last_guard r.layout r.part.guards.looked ≡ last → r'.part.blocks ≡ blocks_by last (so.found ++ word ∷ []) old.part.blocks
+      blocks_are last e = blocks_made m (kinds.LoadGuard count) word r r' made so.at.resting
+          ∙ (λ i. blocks_by (e i) (looked_is i ++ word ∷ []) (so.blocks i))
+
       -- before the last one
       pub looked_more : count < t.layout.runners → HasLooked m (count + 1) old r'
       looked_more few =
-          let part = part_by false (ne_eqb (length r.part.guards.looked) r.layout.runners (λ e. omega (arith, e, few, looked_count, as_wide))) in
+          let before = ne_eqb (length r.part.guards.looked) r.layout.runners (λ e. omega (arith, e, few, looked_count, as_wide)) in
+          let part = part_by false before in
           record {
             found = so.found ++ word ∷ [];
             each = one_more;
             sweeps = more;
             at = then_looked m word r r' None count made so.at;
             descriptors = descriptors_made m (kinds.LoadGuard count) word r r' made so.at.resting ∙ (ap (λ (p : PartState). p.descriptors) part ∙ so.descriptors);
+            blocks = blocks_are false before;
             guards = guards_made m (kinds.LoadGuard count) word r r' made so.at.resting ∙ (ap (λ (p : PartState). p.guards) part
                 ∙ ap (λ (g : GuardsState). with_looked g (so.found ++ word ∷ [])) so.guards);
             keeps = still;
@@ -153,7 +173,10 @@ module _ {T : Type 0} (m : Meaning) where
             sweeps = more;
             descriptors = descriptors_made m (kinds.LoadGuard count) word r r' made so.at.resting ∙ (ap (λ (p : PartState). p.descriptors) part
                 ∙ ap (λ (d : DescriptorsState). descriptors_swept (so.found ++ word ∷ []) d) so.descriptors);
+            blocks = blocks_are true (eq-eqb (length r.part.guards.looked) r.layout.runners here);
             few = few_stay m laws r r' count word made (own.limits _ as_own) (own.allowed _ (ap (λ (y : RunnerState T). y.requests) made.made ∙ own.requests))
+                (here ∙ ap (λ (l : Layout). l.runners) (own.layout ∙ sym as_own));
+            few_blocks = few_blocks_stay m laws r r' count word made (own.limits _ as_own) (own.allowed _ (ap (λ (y : RunnerState T). y.requests) made.made ∙ own.requests))
                 (here ∙ ap (λ (l : Layout). l.runners) (own.layout ∙ sym as_own));
             guards = guards ∙ ap (λ (words : List ℕ). with_looked old.part.guards words) (sym ready.looked);
             ready = record { at = then_looked m word r r' None count made so.at; looked = ap (λ (g : GuardsState). g.looked) guards };

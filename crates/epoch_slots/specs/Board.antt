@@ -39,6 +39,7 @@ module _ {T : Type 0} where
     pub layout : new.layout ≡ old.layout
     pub nodes : new.part.nodes ≡ record (old.part.nodes) { free = new.part.nodes.free }
     pub descriptors : new.part.descriptors ≡ old.part.descriptors
+    pub blocks : new.part.blocks ≡ old.part.blocks
     pub guards : new.part.guards ≡ old.part.guards
     pub known : new.part.records.known ≡ old.part.records.known
     pub finished : new.part.records.finished ≡ old.part.records.finished

@@ -1,5 +1,5 @@
 -- Entering and leaving.
-use Rattle.std.specs.Prelude.{◌≡◌, ℕ, [], None}
+use Rattle.std.specs.Prelude.{◌≡◌, ℕ, ◌≤◌, [], length, None}
 use Rattle.machine_states.specs.structure_laws.specs.Meaning.{Meaning}
 use Rattle.machine_states.specs.runner_parts.specs.declared.event.EventKind.TheVariants as kinds
 use Rattle.machine_states.specs.epoch_core.specs.declared.stage.Stage.TheVariants as stages
@@ -9,11 +9,12 @@ use Rattle.version_words.specs.Events.{Makes, IsMade}
 use Rattle.version_words.specs.Stages.{IsAt}
 
 module _ {T : Type 0} where
-  -- the runner has its number and its own slots, and knows what it knew
+  -- the runner has its number and its own slots, and knows what it knew. Of its blocks some may have come out of limbo
   pub record KeepsOwn (old new : RunnerState T) : Type 0 where
     pub number : new.number ≡ old.number
     pub nodes : new.part.nodes ≡ old.part.nodes
     pub descriptors : new.part.descriptors ≡ old.part.descriptors
+    pub blocks : length old.part.blocks.free ≤ length new.part.blocks.free
     pub known : new.part.records.known ≡ old.part.records.known
     pub finished : new.part.records.finished ≡ old.part.records.finished
 

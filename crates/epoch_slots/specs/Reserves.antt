@@ -11,9 +11,10 @@ module _ {T : Type 0} (r : RunnerState T) where
   abbrev pub free_of : Kind → List ℕ
   free_of kinds.Node = r.part.nodes.free
   free_of kinds.Descriptor = r.part.descriptors.free
+  free_of kinds.Block = r.part.blocks.free
 
   -- how many of this kind are free, in limbo and worn, and how many lay on the board and were lost to others; descriptors
-  -- don't wear, and none lies there
+  -- and blocks don't wear, and none lies there
   abbrev pub counts_of : Kind → Short
   counts_of kinds.Node = record {
     kind = kinds.Node;
@@ -26,6 +27,13 @@ module _ {T : Type 0} (r : RunnerState T) where
     kind = kinds.Descriptor;
     free = length r.part.descriptors.free;
     limbo = length r.part.descriptors.limbo;
+    worn = 0;
+    board = 0;
+  }
+  counts_of kinds.Block = record {
+    kind = kinds.Block;
+    free = length r.part.blocks.free;
+    limbo = length r.part.blocks.limbo;
     worn = 0;
     board = 0;
   }

@@ -5,13 +5,15 @@ ghost use Rattle.epoch_slots.specs.Reserves.{free_of, counts_of};
 use machine_states::structure_laws::Structure;
 use version_words::Runner;
 
-/// The two kinds of slots that a runner owns.
+/// The kinds of slots that a runner owns.
 #[derive(Clone, Copy, Debug, PartialEq, Eq)]
 pub enum Kind {
     /// A slot of five cells, which a Make fills.
     Node,
     /// A slot of thunk words, a done word and a log, with which a section is published.
     Descriptor,
+    /// A further part of a log, which a run links to its section's descriptor.
+    Block,
 }
 
 /// How many slots of a kind a runner had, where fewer were free than it asked for.
@@ -26,7 +28,7 @@ pub struct Short {
     /// How many have a cell at the greatest version and aren't used again.
     pub worn: u32,
     /// How many lay on the board as the runner last looked there for slots, since it left last, and were taken by others
-    /// before it could take them. Of descriptors none lies there.
+    /// before it could take them. Of descriptors and blocks none lies there.
     pub board: u32,
 }
 
@@ -37,6 +39,7 @@ fn free_count<S: Structure>(runner: &Runner<S>, kind: Kind) -> usize
     match kind {
         Kind::Node => runner.free_nodes().len(),
         Kind::Descriptor => runner.free_descriptors().len(),
+        Kind::Block => runner.free_blocks().len(),
     }
 }
 
@@ -56,6 +59,13 @@ fn counts<S: Structure>(runner: &Runner<S>, kind: Kind) -> Short
             kind,
             free: runner.free_descriptors().len() as u32,
             limbo: runner.limbo_descriptors(),
+            worn: 0,
+            board: 0,
+        },
+        Kind::Block => Short {
+            kind,
+            free: runner.free_blocks().len() as u32,
+            limbo: runner.limbo_blocks(),
             worn: 0,
             board: 0,
         },

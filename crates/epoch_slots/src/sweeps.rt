@@ -1,4 +1,4 @@
-//! The sweep of the guard words, and the descriptors that come out of limbo.
+//! The sweep of the guard words, and the descriptors and blocks that come out of limbo.
 ghost use Rattle.version_words.specs.TableState.{IsOf};
 ghost use Rattle.epoch_slots.specs.Sweeps.{MaySweep, HasLooked, HasSwept};
 
@@ -21,8 +21,9 @@ fn look<S: Structure>(table: &FlockTable<S>, runner: Runner<S>) -> Runner<S>
 }
 
 /// One sweep: every guard word is loaded once. The own retired descriptors that none of them names are free then, and
-/// those that one names stay in limbo: somebody may still run their sections. A guard word names one descriptor, so
-/// each other runner keeps one of this runner's from it at most, whatever became of it.
+/// those that one names stay in limbo: somebody may still run their sections. So it is with the own blocks, each under
+/// the descriptor of the section that it was linked in. A guard word names one descriptor, so each other runner keeps one
+/// of this runner's from it at most, and eight blocks, whatever became of it.
 ///
 /// The runner has to be idle, with no sweep in progress. There is no refusal, and no memory is taken. It makes one step
 /// for each runner (Michael, *Hazard pointers*, 2004).

@@ -11,7 +11,7 @@ use Rattle.threaded_runs.specs.free_serving.specs.serving.specs.declared.answers
 use Rattle.threaded_runs.specs.free_serving.specs.serving.specs.declared.answers.Served.TheVariants as answers
 use Rattle.threaded_runs.specs.Runs.{AreServed, IsShortOf}
 use Rattle.threaded_runs.specs.Room.{HasEnoughSlots, HasEnoughVersions}
-use Rattle.threaded_runs.proofs.Sparing.{none_spent, none_worn}
+use Rattle.threaded_runs.proofs.Sparing.{none_spent, none_worn, no_blocks}
 use Rattle.flock_tool.specs.Complete.{Completes}
 use Rattle.flock_tool.specs.Finish.{versions_of, slots_of, any_halted, first_or, first_from, finish_by, finish_status}
 use Rattle.flock_tool.specs.declared.finish.Finish.{Finish}
@@ -106,6 +106,7 @@ module _ {T : Type 0} {reads : Bool} (m : Meaning) (w : WordsState T) (waits : B
       by slots.Node e = let few = is.nodes e in let all = is.counted e in let pairs = served.few_added in
           absurd (omega (arith, few, all, pairs, limbo, unworn, enough))
       by slots.Descriptor e = let all = (is.descriptors e).2 in absurd (omega (arith, all, limbo, some))
+      by slots.Block e = no_blocks m w waits short is e 0 (omega (arith, limbo)) some
 
   never_five : 1 ≤ w.layout.sections → waits ≢ false → HasEnoughSlots m w → finish_status (finish_by list unserved) ≢ 5
   never_five some waited enough five =

@@ -15,7 +15,7 @@ use Rattle.threaded_runs.specs.free_serving.specs.serving.specs.declared.answers
 use Rattle.threaded_runs.specs.free_serving.specs.serving.specs.declared.answers.Served.TheVariants as answers
 use Rattle.threaded_runs.specs.Lone.{AreServedAlone, ServesAlone}
 use Rattle.threaded_runs.specs.Runs.{AreServed, IsShortOf}
-use Rattle.threaded_runs.proofs.Sparing.{first_of, is_late, is_past}
+use Rattle.threaded_runs.proofs.Sparing.{first_of, is_late, is_past, no_blocks}
 use Rattle.flock_tool.specs.Finish.{finish_by, finish_status}
 use Rattle.flock_tool.proofs.Enough.{Lacks, LacksVersions, five_lacks, six_lacks}
 use Rattle.flock_tool.proofs.Enough.LacksVersions.{Met, Wears}
@@ -67,6 +67,7 @@ module _ {T : Type 0} {reads : Bool} (m : Meaning) (per_pair : ℕ) (w : WordsSt
           let all = (is.descriptors e).2 in
           let left = limbo in
           absurd (omega (arith, all, left, some))
+      by slots.Block e = let left = limbo in no_blocks m w waits found.1 is e 0 (omega (arith, left)) some
 
   pub never_six : 8 * length w.requests + 8 ≤ w.layout.version_max → finish_status (finish_by list unserved) ≢ 6
   never_six enough six = by (six_lacks list unserved six)

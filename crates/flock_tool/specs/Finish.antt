@@ -2,7 +2,7 @@
 use Rattle.std.specs.Prelude.{◌≡◌, ℕ, ◌+◌, Bool, true, false, ◌||◌, ◌&&◌, List, [], ◌∷◌, ◌++◌, Option, None, Some, if◌then◌else◌, codes, decimal, nat_lt, unwrap_or}
 use Rattle.machine_states.specs.body_terms.specs.Word.{value_of, version_of}
 use Rattle.hash_table.specs.try_lock.specs.epoch_slots.specs.declared.reserves.Kind.{Kind}
-use Rattle.hash_table.specs.try_lock.specs.epoch_slots.specs.declared.reserves.Kind.TheVariants.{Node, Descriptor}
+use Rattle.hash_table.specs.try_lock.specs.epoch_slots.specs.declared.reserves.Kind.TheVariants.{Node, Descriptor, Block}
 use Rattle.hash_table.specs.try_lock.specs.epoch_slots.specs.declared.reserves.Short.{Short}
 use Rattle.threaded_runs.specs.free_serving.specs.serving.specs.declared.answers.Served.{Served}
 use Rattle.threaded_runs.specs.free_serving.specs.serving.specs.declared.answers.Served.TheVariants as answers
@@ -60,6 +60,7 @@ finish_status (Versions place word) = 6
 abbrev pub kind_name : Kind → List ℕ
 kind_name Node = codes "node"
 kind_name Descriptor = codes "descriptor"
+kind_name Block = codes "block"
 
 -- what a runner lacked, with the counts of its slots of the kind
 abbrev pub counts_line : List ℕ → ℕ → Short → List ℕ

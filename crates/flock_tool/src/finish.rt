@@ -218,5 +218,6 @@ fn kind_name(kind: Kind) -> &'static str
     match kind {
         Kind::Node => "node",
         Kind::Descriptor => "descriptor",
+        Kind::Block => "block",
     }
 }

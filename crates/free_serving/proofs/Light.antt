@@ -39,6 +39,7 @@ use Rattle.seq_read.specs.caller_facts.specs.try_lock.specs.declared.section.Sec
 use Rattle.seq_read.specs.caller_facts.specs.try_lock.specs.declared.planned.Planned.{Planned}
 use Rattle.seq_read.specs.caller_facts.specs.try_lock.specs.declared.planned.Planned.TheVariants as plans
 use Rattle.seq_read.specs.caller_facts.specs.lock_walks.specs.Gets.{GetsAreLight}
+use Rattle.seq_read.specs.caller_facts.specs.section_runs.proofs.Blocks.{no_links}
 use Rattle.seq_read.specs.caller_facts.specs.section_runs.specs.Reached.{run_of, run_or}
 use Rattle.seq_read.specs.caller_facts.specs.section_runs.specs.Opened.{opening, IsOpening, HasOpened}
 use Rattle.serving.specs.attempts.specs.Course.{HasPlanned, HasTried, IsRefused, refused_steps}
@@ -96,10 +97,10 @@ loads_and_run loads run count few ran = omega (arith, few, ran)
 module _ {T : Type 0} (m : Meaning) (laws : Laws m) (r : RunnerState T) (limits : IsWithinLimits r.layout) (allowed : AreAllowed r.requests) where
   module _ (here : RunnerState T) (d : ℕ) (thunk : Thunk) (late : Bool) (is : HasOpened m d thunk late here r) where
     -- the body of a run that was opened has the shape
-    opened_shape : length (m.body thunk) ≤ 32
-    opened_shape = (subst (λ (x : Thunk). IsShaped (m.body x)) is.thunk
+    opened_shape : IsShaped (m.body thunk)
+    opened_shape = subst (λ (x : Thunk). IsShaped (m.body x)) is.thunk
         (subst (λ (q : RunState). IsShaped (m.body (thunk_of q.opened))) (ap run_or is.run)
-        ((in_table m laws r.layout limits r.requests allowed r.number r.part (run_of r) is.inside.inside).body is.inside.opened))).short
+        ((in_table m laws r.layout limits r.requests allowed r.number r.part (run_of r) is.inside.inside).body is.inside.opened))
 
     -- and where it is of a section that the runner has published, its thunk is the published one
     module _ (x : Published) (published : here.part.published ≡ Some x) (of : x.descriptor ≡ d) where
@@ -158,9 +159,10 @@ module _ {T : Type 0} (m : Meaning) (laws : Laws m) (planning : Planning) (gets 
     ended_few : (d : ℕ) (outcome : Outcome) (trail : Agreed) (made : ℕ) (ran : RunnerState T) → EndsSo m d thunk outcome trail made here ran → made ≤ most_of_look
     ended_few d outcome trail made ran ends =
         let opened = ends.opened in
-        let short = opened_shape m laws opened (limits_of opened ends.opening.stays.layout) (allowed_of opened ends.opening.stays.requests) here d thunk trail.late ends.opening in
-        let cost = look_cost (m.body thunk) looks short in
-        let few = ends.few in omega (arith, few, cost)
+        let shape = opened_shape m laws opened (limits_of opened ends.opening.stays.layout) (allowed_of opened ends.opening.stays.requests) here d thunk trail.late ends.opening in
+        let cost = look_cost (m.body thunk) looks shape.short in
+        let links = no_links (m.body thunk) shape in
+        let few = ends.few in omega (arith, few, cost, links)
 
     cut_few : (made : ℕ) (new : RunnerState T) → IsCutShort m section.descriptor made here new → made ≤ most_of_look
     cut_few made new (inl is) = opening_few m laws new (limits_of new is.1.stays.layout) (allowed_of new is.1.stays.requests) made section.descriptor is.0 here is.1
@@ -169,11 +171,12 @@ module _ {T : Type 0} (m : Meaning) (laws : Laws m) (planning : Planning) (gets 
         let own = tried.publishes.published.section in
         let limits_then = limits_of opened ran.opening.stays.layout in
         let allowed_then = allowed_of opened ran.opening.stays.requests in
-        let short = opened_shape m laws opened limits_then allowed_then here section.descriptor ran.thunk ran.late ran.opening in
+        let shape = opened_shape m laws opened limits_then allowed_then here section.descriptor ran.thunk ran.late ran.opening in
         let same : ran.thunk ≡ thunk = opened_own m laws opened limits_then allowed_then here section.descriptor ran.thunk ran.late ran.opening
         own.published own.own own.descriptor ∙ own.thunk in
-        let cost = look_cost (m.body ran.thunk) (ap (λ (x : Thunk). list_all is_look (m.body x)) same ∙ looks) short in
-        let few = ran.few in omega (arith, few, cost)
+        let cost = look_cost (m.body ran.thunk) (ap (λ (x : Thunk). list_all is_look (m.body x)) same ∙ looks) shape.short in
+        let links = no_links (m.body ran.thunk) shape in
+        let few = ran.few in omega (arith, few, cost, links)
 
     loads : length tried.readings ≤ 3 * slots m old.layout + 28
     loads = planned_few tried.readings (plans.Thunk thunk) tried.planned tried.plans

@@ -10,7 +10,7 @@ use Rattle.seq_read.specs.caller_facts.specs.epoch_slots.specs.Collects.{Scans, 
 use Rattle.seq_read.specs.caller_facts.specs.epoch_slots.specs.Sweeps.{Sweeps}
 use Rattle.seq_read.specs.caller_facts.specs.epoch_slots.specs.Board.{IsDrawn}
 use Rattle.seq_read.specs.caller_facts.specs.epoch_slots.proofs.Boarding.{draws_keep, spares_keep}
-use Rattle.serving.specs.attempts.specs.Reclaims.{CollectsWhere, SparesWhere, SweepsWhere, Reclaims, has_much_in_limbo, lacks_slots, lacks_descriptor}
+use Rattle.serving.specs.attempts.specs.Reclaims.{CollectsWhere, SparesWhere, SweepsWhere, Reclaims, has_much_in_limbo, lacks_slots, needs_sweep}
 
 module _ {T : Type 0} where
   -- the runner is of the same table
@@ -83,5 +83,5 @@ module _ {T : Type 0} where
         (then_same c.spared c.first b (where_same (lacks_slots c.spared) c.spared c.first c.once)
         (then_same c.first c.second b (where_same (lacks_slots c.first) c.first c.second c.twice)
         (then_same c.second c.third b (where_same (lacks_slots c.second) c.second c.third c.thrice)
-        (then_same c.third c.swept b (swept_same (lacks_descriptor c.third) c.third c.swept c.sweeps)
+        (then_same c.third c.swept b (swept_same (needs_sweep c.third) c.third c.swept c.sweeps)
         (draws_same c.swept b c.draws))))))

@@ -65,6 +65,14 @@ module _ (q : RunState) (slot : ℕ) where
   ended_is None = refl
   ended_is (Some t) = refl
 
+  pub links_is : (o : Option ℕ) → (filling_slot o q slot).links ≡ q.links
+  links_is None = refl
+  links_is (Some t) = refl
+
+  pub block_is : (o : Option ℕ) → (filling_slot o q slot).block ≡ q.block
+  block_is None = refl
+  block_is (Some t) = refl
+
 -- behind the store of each cell an event stands
 later : (g : Registers) (init : Init) (into cell : ℕ) → cell < 5 → is_event (micro_at (micros g (Make init into)) (2 * cell + 2)) ≡ true
 later g init into zero few = refl
@@ -105,11 +113,11 @@ module _ {T : Type 0} (m : Meaning) (laws : Laws m) (t : TableState T) (limits :
   may_load = record {
     met = ask_at m r.part q (PrivateLoad cell log);
     asked = subst (λ n. met_by m r (kinds.PrivateLoad n cell) ≡ Some (ask_at m r.part q (PrivateLoad cell log))) slot_same
-        (may_make m laws t limits allowed r own q may.running (PrivateLoad cell log) ahead has);
+        (may_make m laws t limits allowed r own q may.running (PrivateLoad cell log) ahead refl has);
   }
 
   pub loads : (found : ℕ) (r' : RunnerState T) → Makes m (kinds.PrivateLoad slot cell) found r r' → Stepped m q (PrivateLoad cell log) found r r'
-  loads found r' made = then_made m laws t limits allowed r own q may.running (PrivateLoad cell log) ahead has found r'
+  loads found r' made = then_made m laws t limits allowed r own q may.running (PrivateLoad cell log) ahead refl has found r'
       (subst (λ n. Makes m (kinds.PrivateLoad n cell) found r r') (sym slot_same) made)
 
   module _ (found : ℕ) (r' : RunnerState T) (own' : IsOf t r') (load : Stepped m q (PrivateLoad cell log) found r r') where
@@ -138,7 +146,7 @@ module _ {T : Type 0} (m : Meaning) (laws : Laws m) (t : TableState T) (limits :
     kind_is = (λ i. kinds.PrivateStore (slot_in (made_same i)) cell (number_is i))
 
     store_met : met_by m r' (kind_at r'.part loaded (PrivateStore cell log source)) ≡ Some (ask_at m r'.part loaded (PrivateStore cell log source))
-    store_met = may_make m laws t limits allowed r' own' loaded running (PrivateStore cell log source) store_ahead refl
+    store_met = may_make m laws t limits allowed r' own' loaded running (PrivateStore cell log source) store_ahead refl refl
 
     pub may_store : (number : ℕ) → number ≡ next_word found value → IsEnabled m (kinds.PrivateStore slot cell number) r'
     may_store number e = record {
@@ -151,7 +159,7 @@ module _ {T : Type 0} (m : Meaning) (laws : Laws m) (t : TableState T) (limits :
 
     pub few_versions : version_of found + 1 < 2 ^ 32
     few_versions =
-        let asked = asked_there m laws t limits allowed r' own' loaded running (PrivateStore cell log source) store_ahead refl in
+        let asked = asked_there m laws t limits allowed r' own' loaded running (PrivateStore cell log source) store_ahead refl refl in
         let raise : can_raise r'.layout found ≡ true = (fill_store_asked loaded _ m r'.layout _ _ _ (PrivateStore cell log source) asked).4 in
         let low = less (version_of found) r'.layout.version_max raise in
         let b = limits.few_versions in let c = ap (λ (l : Layout). l.version_max) own'.layout in omega (arith, low, b, c)
@@ -161,7 +169,7 @@ module _ {T : Type 0} (m : Meaning) (laws : Laws m) (t : TableState T) (limits :
 
     pub stores : (number over : ℕ) (r2 : RunnerState T) → number ≡ next_word found value → Makes m (kinds.PrivateStore slot cell number) over r' r2
         → Stepped m loaded (PrivateStore cell log source) over r' r2
-    stores number over r2 e made = then_made m laws t limits allowed r' own' loaded running (PrivateStore cell log source) store_ahead refl over r2
+    stores number over r2 e made = then_made m laws t limits allowed r' own' loaded running (PrivateStore cell log source) store_ahead refl refl over r2
         (subst (λ k. Makes m k over r' r2) (ap (λ n. kinds.PrivateStore slot cell n) e ∙ sym kind_is) made)
 
     -- behind it the load of the next cell stands, or the commit
@@ -202,6 +210,9 @@ module _ {T : Type 0} (m : Meaning) (laws : Laws m) (t : TableState T) (limits :
       opened = opened_is q slot q.made;
       descriptor = descriptor_is q slot q.made;
       ended = ended_is q slot q.made;
+      links = links_is q slot q.made;
+      block = block_is q slot q.made;
+      blocks = store.behind.blocks ∙ load.behind.blocks;
       worn = (λ i. filling.worn || version_of (number_is i) == (same i).version_max);
     }
 
@@ -221,6 +232,9 @@ module _ {T : Type 0} (m : Meaning) (old : RunnerState T) (values : List ℕ) (q
     opened = refl;
     descriptor = refl;
     ended = refl;
+    links = refl;
+    block = refl;
+    blocks = refl;
     nodes = refl;
   }
 
@@ -268,5 +282,8 @@ module _ {T : Type 0} (m : Meaning) (old : RunnerState T) (values : List ℕ) (q
           opened = has.opened ∙ filling.opened;
           descriptor = has.descriptor ∙ filling.descriptor;
           ended = has.ended ∙ filling.ended;
+          links = has.links ∙ filling.links;
+          block = has.block ∙ filling.block;
+          blocks = has.blocks ∙ filling.blocks;
           nodes = has.nodes ∙ (taken_of count filling.behind.made filling.made r.part.nodes filling.nodes ∙ sym (ap (λ b. if b then old.part.nodes else slot_taken old.part.nodes slot) positive));
         }

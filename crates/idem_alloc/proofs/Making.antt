@@ -1,13 +1,12 @@
 -- A Make's commit.
-use Rattle.std.proofs.Common.{◌≡◌, ℕ, ◌+◌, ◌-◌, ◌≤◌, List, length, Bool, true, false, refl, sym, ap, ◌∙◌, cond, arith, Option, Some, None}
-use Rattle.std.specs.Prelude.{◌==◌, slice_index, if◌then◌else◌}
+use Rattle.std.proofs.Common.{◌≡◌, ℕ, ◌+◌, ◌-◌, ◌*◌, ◌≤◌, List, length, Bool, true, false, refl, sym, ap, ◌∙◌, cond, arith, Option, Some, None}
+use Rattle.std.specs.Prelude.{◌==◌, is_some, slice_index, if◌then◌else◌}
 use Rattle.std.proofs.lemmas.Bool.Decides.{nat_tests}
 use Rattle.runner_steps.specs.body_terms.specs.declared.step.Step.TheVariants.{Make}
 use Rattle.runner_steps.specs.body_terms.specs.declared.micro.Micro.TheVariants.{MakeCommit}
 use Rattle.runner_steps.specs.body_terms.specs.Line.{line, begins, micro_at, registers_before}
 use Rattle.runner_steps.specs.body_terms.specs.Run.{written_once}
 use Rattle.runner_steps.specs.body_terms.proofs.LineLemmas.{micro_within}
-use Rattle.runner_steps.specs.table_words.specs.declared.spot.Spot.TheVariants.{LogWord}
 use Rattle.runner_steps.specs.table_words.specs.declared.access.Access.TheVariants.{Exchanges}
 use Rattle.runner_steps.specs.table_words.specs.Limits.{IsWithinLimits}
 use Rattle.section_lines.specs.structure_laws.specs.Meaning.{Meaning}
@@ -15,8 +14,9 @@ use Rattle.section_lines.specs.structure_laws.specs.Laws.{Laws}
 use Rattle.runner_steps.specs.runner_parts.specs.declared.event.EventKind.TheVariants as kinds
 use Rattle.runner_steps.specs.runner_parts.specs.State.{RunState, NodesState}
 use Rattle.runner_steps.specs.runner_parts.specs.Lists.{slot_taken, slot_made, slot_back}
+use Rattle.runner_steps.specs.runner_parts.specs.block_words.specs.Blocks.{log_spot, blocks_for}
 use Rattle.runner_steps.specs.InRun.{last_of}
-use Rattle.runner_steps.specs.Sections.{thunk_of, line_of, next_of}
+use Rattle.runner_steps.specs.Sections.{thunk_of, line_of, next_of, commits_to, needs_link}
 use Rattle.runner_steps.specs.AfterInRun.{agrees}
 use Rattle.commit_log.specs.version_words.specs.machine_invariant.specs.After.{AreAllowed}
 use Rattle.commit_log.specs.next_steps.specs.Steps.{slot_in}
@@ -24,9 +24,12 @@ use Rattle.commit_log.specs.next_steps.specs.Stages.{unfilled}
 use Rattle.commit_log.specs.version_words.specs.RunnerState.{RunnerState}
 use Rattle.commit_log.specs.version_words.specs.TableState.{TableState, IsOf}
 use Rattle.commit_log.specs.version_words.specs.Events.{met_by, Makes}
-use Rattle.commit_log.specs.version_words.specs.Place.{next_log}
+use Rattle.commit_log.specs.version_words.specs.Place.{next_log, KnowsPart}
 use Rattle.commit_log.specs.Runs.{Stepped}
-use Rattle.commit_log.proofs.Running.{may_make, goes_behind, then_made}
+use Rattle.commit_log.specs.Links.{link_cost, links_cost, MayLink, HasLinked}
+use Rattle.commit_log.specs.next_steps.specs.Steps.{stock}
+use Rattle.commit_log.proofs.Running.{may_make, goes_behind, unneeded, knows_part, then_made}
+use Rattle.commit_log.proofs.Linking.{linked_ahead}
 use Rattle.commit_log.proofs.Next.{next_here}
 use Rattle.idem_alloc.specs.Made.{MayMake, IsFilling, HasMade}
 
@@ -63,29 +66,62 @@ module _ {T : Type 0} (m : Meaning) (laws : Laws m) (t : TableState T) (limits :
   ahead : next_of m p ≡ MakeCommit log
   ahead = next_here m p (MakeCommit log) there refl
 
-  slot_same : slot_in p.made ≡ slot
-  slot_same = ap slot_in filled.made
+  -- its links cost what they did before
+  pub same_cost : links_cost 1 p ≡ links_cost 1 q
+  same_cost = (λ i. link_cost * (blocks_for (length (filled.trail i) + 1) - length (filled.links i)))
 
-  pub may_commit : met_by m full kinds.MakeCommit ≡ Some (next_log full.part.run, Exchanges 0 (slot + 1))
-  may_commit = may_make m laws t limits allowed full own p filled.running (MakeCommit log) ahead refl
-      ∙ ((λ i. Some (LogWord p.descriptor (goes_behind m laws t limits allowed full own p filled.running (MakeCommit log) ahead log refl i), Exchanges 0 (slot_same i + 1)))
-      ∙ ap (λ (o : Option RunState). Some (next_log o, Exchanges 0 (slot + 1))) (sym filled.running.inside.running))
-
-  pub commits : (first : Bool) (agreed : ℕ) (new : RunnerState T) → Makes m kinds.MakeCommit (made_word first agreed) full new → Stepped m p (MakeCommit log) (made_word first agreed) full new
-  commits first agreed new made = then_made m laws t limits allowed full own p filled.running (MakeCommit log) ahead refl (made_word first agreed) new made
-
-  pub has_made : (first : Bool) (agreed : ℕ) (new : RunnerState T) → (first ≡ true → agreed ≡ slot) → Stepped m p (MakeCommit log) (made_word first agreed) full new → HasMade m agreed old new q
-  has_made first agreed new mine commit = record {
-    slot = slot;
-    free = free;
-    log = log;
-    first = first;
-    full = full;
-    filled = filled;
-    commit = commit;
-    own = mine;
-    nodes = commit.behind.nodes ∙ ((λ i. if made_word first agreed == 0 then slot_made (filled.nodes i) (slot_same i) else slot_back (filled.nodes i) (slot_same i) p.worn)
-        ∙ made_nodes first agreed slot (slot_taken old.part.nodes slot) p.worn);
-    goes_on = commit.goes_on (agrees m full.layout (unfilled p) (agreed + 1)) (commit.behind.run
-        ∙ ap (λ n. Some (agrees m full.layout (unfilled p) n)) (ap (λ n. written_once (made_word first agreed) (n + 1)) slot_same ∙ agreed_is first agreed slot mine));
+  -- it has a block for its word where one is to be linked
+  pub may_link : MayLink m full p
+  may_link = record {
+    running = filled.running;
+    commits = ap commits_to ahead ∙ ap (λ (n : ℕ). Some n) (goes_behind m laws t limits allowed full own p filled.running (MakeCommit log) ahead log refl);
+    room = (let had = may.room in
+        let words = ap (λ (xs : List ℕ). blocks_for (length xs + 1)) filled.trail in
+        let stocks : stock full.part p ≡ stock old.part q = (λ i. length (filled.links i) + (if is_some (filled.block i) then 1 else 0) + length (filled.blocks i).free) in
+        omega (arith, had, words, stocks));
   }
+
+  -- and behind the link
+  module _ (linked : RunnerState T) (own' : IsOf t linked) (between : RunState) (links : HasLinked m full linked p between) where
+    on : next_of m between ≡ MakeCommit log
+    on = linked_ahead m full linked p between links (MakeCommit log) ahead
+
+    unlinked : needs_link between (MakeCommit log) ≡ false
+    unlinked = unneeded m laws t limits allowed linked own' between links.running (MakeCommit log) on links.linked
+
+    slot_same : slot_in between.made ≡ slot
+    slot_same = ap (λ (y : RunState). slot_in y.made) links.line ∙ ap slot_in filled.made
+
+    pub may_commit : met_by m linked kinds.MakeCommit ≡ Some (next_log linked.part.run, Exchanges 0 (slot + 1))
+    may_commit = may_make m laws t limits allowed linked own' between links.running (MakeCommit log) on unlinked refl
+        ∙ ((λ i. Some (log_spot between.descriptor between.links (goes_behind m laws t limits allowed linked own' between links.running (MakeCommit log) on log refl i), Exchanges 0 (slot_same i + 1)))
+        ∙ ap (λ (o : Option RunState). Some (next_log o, Exchanges 0 (slot + 1))) (sym links.running.inside.running))
+
+    pub knows : KnowsPart linked.part.run
+    knows = knows_part m linked between links.running links.linked
+
+    pub commits : (first : Bool) (agreed : ℕ) (new : RunnerState T) → Makes m kinds.MakeCommit (made_word first agreed) linked new → Stepped m between (MakeCommit log) (made_word first agreed) linked new
+    commits first agreed new made = then_made m laws t limits allowed linked own' between links.running (MakeCommit log) on unlinked refl (made_word first agreed) new made
+
+    pub has_made : (first : Bool) (agreed : ℕ) (new : RunnerState T) → (first ≡ true → agreed ≡ slot) → Stepped m between (MakeCommit log) (made_word first agreed) linked new → HasMade m agreed old new q
+    has_made first agreed new mine commit =
+        let nodes : linked.part.nodes ≡ slot_taken old.part.nodes slot = links.same.nodes ∙ filled.nodes in
+        let worn : between.worn ≡ p.worn = ap (λ (y : RunState). y.worn) links.line in
+        let word : written_once (made_word first agreed) (slot_in between.made + 1) ≡ agreed + 1 = ap (λ n. written_once (made_word first agreed) (n + 1)) slot_same ∙ agreed_is first agreed slot mine in
+        record {
+          slot = slot;
+          free = free;
+          log = log;
+          first = first;
+          full = full;
+          filled = filled;
+          between = between;
+          linked = linked;
+          links = links;
+          commit = commit;
+          own = mine;
+          nodes = commit.behind.nodes ∙ ((λ i. if made_word first agreed == 0 then slot_made (nodes i) (slot_same i) else slot_back (nodes i) (slot_same i) (worn i))
+              ∙ made_nodes first agreed slot (slot_taken old.part.nodes slot) p.worn);
+          goes_on = commit.goes_on (agrees m full.layout (unfilled between) (agreed + 1)) (commit.behind.run
+              ∙ (λ i. Some (agrees m (links.same.layout i) (unfilled between) (word i))));
+        }

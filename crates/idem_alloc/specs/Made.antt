@@ -18,6 +18,7 @@ use Rattle.runner_steps.specs.AfterInRun.{goes_on, agrees}
 use Rattle.commit_log.specs.next_steps.specs.Stages.{filling_slot, nodes_taking, unfilled}
 use Rattle.commit_log.specs.version_words.specs.RunnerState.{RunnerState}
 use Rattle.commit_log.specs.Runs.{IsRunning, Stepped, Ran}
+use Rattle.commit_log.specs.Links.{HasRoom, HasLinked}
 
 -- this run stands so many atomic steps into a Make with these values
 pub record IsInMake (m : Meaning) (init : Init) (past : ℕ) (q : RunState) : Type 0 where
@@ -61,16 +62,21 @@ module _ {T : Type 0} (m : Meaning) where
     pub opened : behind.opened ≡ q.opened
     pub descriptor : behind.descriptor ≡ q.descriptor
     pub ended : behind.ended ≡ q.ended
+    pub links : behind.links ≡ q.links
+    pub block : behind.block ≡ q.block
+    pub blocks : new.part.blocks ≡ old.part.blocks
     pub worn : behind.worn ≡ ((filling_slot q.made q slot).worn || version_of (next_word found value) ==
         old.layout.version_max)
 
-  -- the next step of this run makes a node with these values, and a slot is free for it
+  -- the next step of this run makes a node with these values, a slot is free for it, and there is a block for its word
+  -- where one is to be linked
   pub record MayMake (r : RunnerState T) (values : List ℕ) (q : RunState) : Type 0 where
     pub running : IsRunning m r q
     pub init : Init
     pub next : IsInMake m init 0 q
     pub none : q.made ≡ None
     pub reserve : 1 ≤ length r.part.nodes.free
+    pub room : HasRoom 1 r.part q
     pub given : (cell : ℕ) → cell < 5 → slice_index values cell ≡ source_value q.trail (fills_with m init cell 0 q next)
 
   -- so many cells of the slot are filled, and the run stands behind them
@@ -84,11 +90,14 @@ module _ {T : Type 0} (m : Meaning) where
     pub opened : behind.opened ≡ q.opened
     pub descriptor : behind.descriptor ≡ q.descriptor
     pub ended : behind.ended ≡ q.ended
+    pub links : behind.links ≡ q.links
+    pub block : behind.block ≡ q.block
+    pub blocks : new.part.blocks ≡ old.part.blocks
     pub nodes : new.part.nodes ≡ (if count == 0 then old.part.nodes else slot_taken old.part.nodes slot)
 
-  -- the last free slot was filled, and a slot agreed on. Where this commit was the first one it is the own slot, which
-  -- is live then; else the own one is free again, or worn where one of its cells came to the greatest version. The run
-  -- goes on with the agreed slot
+  -- the last free slot was filled, the part for its word linked where that was due, and a slot agreed on. Where this
+  -- commit was the first one it is the own slot, which is live then; else the own one is free again, or worn where one
+  -- of its cells came to the greatest version. The run goes on with the agreed slot
   pub record HasMade (agreed : ℕ) (old new : RunnerState T) (q : RunState) : Type 0 where
     pub slot : ℕ
     pub free : last_of old.part.nodes.free ≡ Some slot
@@ -96,8 +105,11 @@ module _ {T : Type 0} (m : Meaning) where
     pub first : Bool
     pub full : RunnerState T
     pub filled : IsFilling slot 5 old full q
-    pub commit : Stepped m filled.behind (MakeCommit log) (if first then 0 else agreed + 1) full new
+    pub between : RunState
+    pub linked : RunnerState T
+    pub links : HasLinked m full linked filled.behind between
+    pub commit : Stepped m between (MakeCommit log) (if first then 0 else agreed + 1) linked new
     pub own : first ≡ true → agreed ≡ slot
     pub nodes : new.part.nodes ≡ (if first then slot_made (slot_taken old.part.nodes slot) slot
         else slot_back (slot_taken old.part.nodes slot) slot filled.behind.worn)
-    pub goes_on : IsRunning m new (agrees m full.layout (unfilled filled.behind) (agreed + 1))
+    pub goes_on : IsRunning m new (agrees m full.layout (unfilled between) (agreed + 1))

@@ -1,16 +1,17 @@
 //! Nodes that a run makes.
-ghost use Rattle.std.specs.Prelude.{◌≡◌, length, Some, true, false, IfSome, IfNone};
+ghost use Rattle.std.specs.Prelude.{◌≡◌, ◌+◌, length, Some, true, false, IfSome, IfNone};
 ghost use Rattle.runner_steps.specs.InRun.{last_of};
 ghost use Rattle.runner_steps.specs.runner_parts.specs.State.{RunState};
 ghost use Rattle.commit_log.specs.version_words.specs.TableState.{IsOf};
 ghost use Rattle.commit_log.specs.Runs.{IsRunning};
 ghost use Rattle.commit_log.specs.Asked.{IsAsked};
-ghost use Rattle.commit_log.specs.Halted.{IsHalted};
+ghost use Rattle.commit_log.specs.Halted.{IsHalted, IsThrough};
+ghost use Rattle.commit_log.specs.Links.{links_cost};
 ghost use Rattle.idem_alloc.specs.Numbers.{number_of, numbers_of};
 ghost use Rattle.idem_alloc.specs.Made.{MayFill, HasFilled, MayMake, IsFilling, HasMade};
 
 use commit_log::version_words::{FlockTable, Runner};
-use commit_log::{Unasked, passes};
+use commit_log::{Unasked, link_if_due, passes};
 use runner_gate::Gate;
 use runner_steps::body_terms::{Init, StepKind, Steps, Value, Word};
 use section_lines::structure_laws::Structure;
@@ -105,9 +106,10 @@ fn numbers_of(init: &Init) -> [u32; 5]
     ]
 }
 
-/// Makes a node with these values, in eleven steps: the last slot of the own free list is filled cell by cell, and its
-/// number is agreed on. Answers the agreed slot: the first one that a run of the section committed here. Where that is
-/// another one, the own slot is free again, or worn where one of its cells came to the greatest version.
+/// Makes a node with these values, in eleven steps and those of a link where one is due: the last slot of the own free
+/// list is filled cell by cell, and its number is agreed on. Answers the agreed slot: the first one that a run of the
+/// section committed here. Where that is another one, the own slot is free again, or worn where one of its cells came
+/// to the greatest version.
 ///
 /// The runner has to be in a run whose next step makes this node, with a reserve of one node slot. Each value is the
 /// number that its cell gets: where the step names a register, the caller puts what the register holds, since a runner
@@ -143,15 +145,21 @@ pub fn make_gated<S: Structure, G: Gate, L>(
     ensures own { IsOf table.now result.0 }
     ensures made { IfSome result.1 (λ agreed. (q : RunState) → IsRunning (S.meaning table.now.structure) runner q
         → HasMade (S.meaning table.now.structure) agreed runner result.0 q) }
-    ensures asked { IfSome result.1 (λ agreed. IsAsked 11 true
+    ensures through { IfSome result.1 (λ agreed. (q : RunState) → IsRunning (S.meaning table.now.structure) runner q
+        → IsThrough (S.meaning table.now.structure) (11 + links_cost 1 q) runner result.0
         (G.halts gate.old) (G.halts gate.new) (G.asks gate.old) (G.asks gate.new) steps.old.count steps.new.count) }
-    ensures halted { IfNone result.1 (IsHalted (S.meaning table.now.structure) 11 runner result.0
+    ensures halted { IfNone result.1 ((q : RunState) → IsRunning (S.meaning table.now.structure) runner q
+        → IsHalted (S.meaning table.now.structure) (11 + links_cost 1 q) runner result.0
         (G.halts gate.old) (G.halts gate.new) (G.asks gate.old) (G.asks gate.new) steps.old.count steps.new.count) }
 {
     let free = runner.free_nodes();
     let slot = free[free.len() - 1];
     let (runner, filled) = fill_all(table, runner, slot, values, gate, steps);
     if !filled {
+        return (runner, None);
+    }
+    let (runner, linked) = link_if_due(table, runner, gate, steps);
+    if !linked {
         return (runner, None);
     }
     let (runner, agreed, _) = table.make_commit(runner, slot);

@@ -28,11 +28,11 @@ use Rattle.idem_cell.specs.Stored.{MayStore, HasStored}
 
 module _ {T : Type 0} (m : Meaning) (laws : Laws m) (t : TableState T) (limits : IsWithinLimits t.layout) (allowed : AreAllowed t.requests) (r : RunnerState T) (own : IsOf t r) (place old value : ℕ) (q : RunState) (may : MayStore m r place old value q) where
   pub may_store : met_by m r kinds.ExchangeCell ≡ Some (Cell place, Exchanges old (next_word old value))
-  may_store = may_make m laws t limits allowed r own q may.running (ExchangeCell place may.log may.source) may.next refl
+  may_store = may_make m laws t limits allowed r own q may.running (ExchangeCell place may.log may.source) may.next refl refl
       ∙ (λ i. Some (Cell place, Exchanges (sym may.word i) (next_word (sym may.word i) (sym may.given i))))
 
   pub has_room : version_of old < r.layout.version_max
-  has_room = let e = (if_some _ _ _ (asked_there m laws t limits allowed r own q may.running (ExchangeCell place may.log may.source) may.next refl)).0 in
+  has_room = let e = (if_some _ _ _ (asked_there m laws t limits allowed r own q may.running (ExchangeCell place may.log may.source) may.next refl refl)).0 in
       let low = less (version_of (slice_index q.trail may.log)) r.layout.version_max e in
       subst (λ n. version_of n < r.layout.version_max) (sym may.word) low
     where
@@ -58,7 +58,7 @@ module _ {T : Type 0} (m : Meaning) (laws : Laws m) (t : TableState T) (limits :
 
   pub then_stored : (found : ℕ) (r' : RunnerState T) → Makes m kinds.ExchangeCell found r r' → HasStored m place old value r r' q
   then_stored found r' made =
-      let step = then_made m laws t limits allowed r own q may.running (ExchangeCell place may.log may.source) may.next refl found r' made in
+      let step = then_made m laws t limits allowed r own q may.running (ExchangeCell place may.log may.source) may.next refl refl found r' made in
       let met = some_same made.met (Cell place, Exchanges old (next_word old value)) (sym made.asked ∙ may_store) in
       record {
         log = may.log;

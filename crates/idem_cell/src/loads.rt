@@ -1,20 +1,20 @@
 //! The load of a cell.
-ghost use Rattle.std.specs.Prelude.{IfSome, IfNone, true};
+ghost use Rattle.std.specs.Prelude.{◌+◌, IfSome, IfNone};
 ghost use Rattle.machine_states.specs.runner_parts.specs.State.{RunState};
 ghost use Rattle.commit_log.specs.version_words.specs.TableState.{IsOf};
 ghost use Rattle.commit_log.specs.Runs.{IsRunning};
-ghost use Rattle.commit_log.specs.Asked.{IsAsked};
-ghost use Rattle.commit_log.specs.Halted.{IsHalted};
+ghost use Rattle.commit_log.specs.Halted.{IsHalted, IsThrough};
+ghost use Rattle.commit_log.specs.Links.{links_cost};
 ghost use Rattle.idem_cell.specs.Loaded.{MayLoad, HasLoaded};
 
 use commit_log::version_words::{FlockTable, Runner};
-use commit_log::{Unasked, commit, passes};
+use commit_log::{Unasked, commit, link_if_due, passes};
 use machine_states::body_terms::{Place, StepKind, Steps, Word};
 use machine_states::structure_laws::Structure;
 use runner_gate::Gate;
 
-/// Loads the cell and agrees on its word, in two steps. Answers the agreed word: the first one that a run of the
-/// section committed here, which may be older than the one in the cell.
+/// Loads the cell and agrees on its word, in two steps, and those of a link where one is due. Answers the agreed word:
+/// the first one that a run of the section committed here, which may be older than the one in the cell.
 ///
 /// The runner has to be in a run whose next step loads this cell. There is no refusal, and no memory is taken
 /// (Ben-David, Blelloch, Wei, 2022).
@@ -50,13 +50,19 @@ pub fn load_gated<S: Structure, G: Gate, L>(
     ensures own { IsOf table.now result.0 }
     ensures loaded { IfSome result.1 (λ word. (q : RunState) → IsRunning (S.meaning table.now.structure) runner q
         → HasLoaded (S.meaning table.now.structure) place word runner result.0 q) }
-    ensures asked { IfSome result.1 (λ word. IsAsked 2 true
+    ensures through { IfSome result.1 (λ word. (q : RunState) → IsRunning (S.meaning table.now.structure) runner q
+        → IsThrough (S.meaning table.now.structure) (2 + links_cost 1 q) runner result.0
         (G.halts gate.old) (G.halts gate.new) (G.asks gate.old) (G.asks gate.new) steps.old.count steps.new.count) }
-    ensures halted { IfNone result.1 (IsHalted (S.meaning table.now.structure) 2 runner result.0
+    ensures halted { IfNone result.1 ((q : RunState) → IsRunning (S.meaning table.now.structure) runner q
+        → IsHalted (S.meaning table.now.structure) (2 + links_cost 1 q) runner result.0
         (G.halts gate.old) (G.halts gate.new) (G.asks gate.old) (G.asks gate.new) steps.old.count steps.new.count) }
 {
     let (runner, word) = table.load_cell(runner, place);
     if !passes(gate, steps, StepKind::LoadCell) {
+        return (runner, None);
+    }
+    let (runner, linked) = link_if_due(table, runner, gate, steps);
+    if !linked {
         return (runner, None);
     }
     let (runner, agreed, _) = commit(table, runner, word.bits());

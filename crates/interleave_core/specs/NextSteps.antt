@@ -12,7 +12,7 @@ use Rattle.reached_histories.specs.machine_facts.specs.machine_invariant.specs.A
 use Rattle.next_steps.specs.Enabled.{NextIsEnabled, RunsGoOn}
 
 -- whoever is in a run and wasn't joined has an enabled event, the next one of its opening, line or end, but
--- where a Make finds no free slot; and the machine can make it
+-- where a Make finds no free slot or a link no free block; and the machine can make it
 pub record NextStepsGo (m : Meaning) (l : Layout) (requests : List Request) (w : World) : Type 0 where
   pub enabled : NextIsEnabled m l requests (sight m l requests w)
   pub goes_on : RunsGoOn m l requests w

@@ -43,8 +43,8 @@ pub enum ScheduleError {
 /// history is linearizable: what was answered after any number of the events has a smaller stamp than what
 /// wasn't asked by then, or the same where both are reads without a lock.
 /// Whoever is in a run and wasn't joined has an enabled event, the next one of its opening, line or end,
-/// but where a Make finds no free slot. `NotEnabled` comes exactly where an event isn't enabled, and names
-/// the first.
+/// but where a Make finds no free slot or a link no free block. `NotEnabled` comes exactly where an event
+/// isn't enabled, and names the first.
 pub fn all_schedules<S: Structure>(
     alloc: Global,
     structure: S,

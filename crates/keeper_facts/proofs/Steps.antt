@@ -46,7 +46,7 @@ use Rattle.runner_facts.specs.machine_facts.specs.machine_agreement.proofs.RunPl
 use Rattle.runner_facts.specs.machine_facts.specs.machine_invariant.specs.After.{AreAllowed}
 use Rattle.runner_facts.specs.machine_facts.specs.machine_invariant.specs.Along.{components_after}
 use Rattle.runner_facts.specs.machine_facts.specs.machine_invariant.specs.Trails.{IsEndOf}
-use Rattle.runner_facts.specs.machine_facts.specs.machine_invariant.proofs.After.{reached_whole}
+use Rattle.runner_facts.specs.machine_facts.specs.machine_invariant.proofs.After.{reached_whole, reached_beside}
 use Rattle.runner_facts.specs.machine_facts.specs.machine_invariant.proofs.Basics.{not_both}
 use Rattle.runner_facts.specs.machine_facts.specs.machine_invariant.proofs.Sights.{after_is}
 use Rattle.runner_facts.specs.machine_facts.specs.After.{AreFactsOfStep}
@@ -100,9 +100,9 @@ module _ (m : Meaning) (laws : Laws m) (l : Layout) (limits : IsWithinLimits l) 
 
   pub st : IsStep m l rs s s' e.runner e.kind
   st =
-      let a = reached_whole m laws l rs reached.events w limits allowed reached.after in
+      let a = reached_beside m laws l rs reached.events w limits allowed reached.after in
       let b = reached_whole m laws l rs reached'.events v limits allowed reached'.after in
-      record { step = (happens_steps m l rs w v e whole goes).0; beside = a.0; whole = a.1; beside' = b.0; whole' = b.1 }
+      record { step = (happens_steps m l rs w v e whole goes).0; beside = a.0; whole = a.1; requests = a.2; beside' = b.0; whole' = b.1 }
 
   abbrev x : Spot × Access
   x = st.step.ask

@@ -38,7 +38,7 @@ use Rattle.runner_facts.specs.machine_facts.specs.machine_invariant.specs.After.
 use Rattle.runner_facts.specs.machine_facts.proofs.Following.{facts_after}
 use Rattle.runner_facts.specs.Facts.{JoinedAreGone}
 use Rattle.runner_facts.specs.Keeper.{AllJoined, KeeperStands}
-use Rattle.keeper_facts.specs.Freed.{HasLeft, IsCleared, IsFreed, IsPublished, AreApart, IsAlone, LocksTell}
+use Rattle.keeper_facts.specs.Freed.{HasLeft, IsCleared, IsNamed, IsFreed, IsPublished, AreApart, IsAlone, LocksTell}
 use Rattle.keeper_facts.proofs.Lists.{left_split, StandsLast, last_stands, few_given}
 use Rattle.keeper_facts.proofs.Runs.{IsIn}
 use Rattle.keeper_facts.proofs.Steps as steps
@@ -341,9 +341,9 @@ module _ (m : Meaning) (laws : Laws m) (l : Layout) (limits : IsWithinLimits l) 
     owned_by : AllJoined l here → (d : ℕ) → IsFreed m seen d → IsPublished l here d
     owned_by joined d f = all_tells.published joined f.place d f.word f.lock f.named f.names
 
-    few_freed : AllJoined l here → (ds : List ℕ) → AreApart ds → ((d : ℕ) → has ds d ≡ true → IsFreed m seen d) → length ds ≤ l.runners
-    few_freed joined ds apart each = few_given (λ r. descriptor_of (here.part r).published) l.runners ds apart
-        (λ d h. let p = owned_by joined d (each d h) in
+    few_named : AllJoined l here → (ds : List ℕ) → AreApart ds → ((d : ℕ) → has ds d ≡ true → IsNamed m seen d) → length ds ≤ l.runners
+    few_named joined ds apart each = few_given (λ r. descriptor_of (here.part r).published) l.runners ds apart
+        (λ d h. let n = each d h in let p = all_tells.published joined n.place d n.word n.lock n.named n.names in
         (p.worker, p.low, some_of (here.part p.worker).published p.section d p.published p.of_section))
 
     pub locks_tell : LocksTell m l here
@@ -351,6 +351,6 @@ module _ (m : Meaning) (laws : Laws m) (l : Layout) (limits : IsWithinLimits l) 
       freed = never;
       cleared = free;
       owned = owned_by;
-      few = few_freed;
+      few = few_named;
       stands = λ joined place number is. let last = last_of joined place number is in record { number = last.number; has = last.has; is = last.is };
     }

@@ -26,6 +26,14 @@ pub record IsCleared (left : List Left) (place : ℕ) : Type 0 where
   pub also : HasLeft left place second
   pub why : (value_of first ≡ 0) ⊎ (first ≢ second)
 
+-- a lock named the section in this descriptor, as the keeper saw it
+pub record IsNamed (m : Meaning) (left : List Left) (d : ℕ) : Type 0 where
+  pub place : ℕ
+  pub lock : m.is_lock place ≡ true
+  pub word : ℕ
+  pub named : HasLeft left place word
+  pub names : value_of word ≡ suc d
+
 -- a lock named the section in this descriptor, and the keeper saw it with another word too
 pub record IsFreed (m : Meaning) (left : List Left) (d : ℕ) : Type 0 where
   pub place : ℕ
@@ -70,9 +78,9 @@ pub record LocksTell (m : Meaning) (l : Layout) (s : Sight) : Type 0 where
       → value_of (s.word (Cell place)) ≡ 0
   -- a section that was freed is one that a worker has published still
   pub owned : AllJoined l s → (d : ℕ) → IsFreed m (s.part l.runners).records.left d → IsPublished l s d
-  -- each worker left one section at most
+  -- each worker left one section at most: so many were named by locks, as the keeper saw them
   pub few : AllJoined l s → (ds : List ℕ) → AreApart ds
-      → ((d : ℕ) → has ds d ≡ true → IsFreed m (s.part l.runners).records.left d) → length ds ≤ l.runners
+      → ((d : ℕ) → has ds d ≡ true → IsNamed m (s.part l.runners).records.left d) → length ds ≤ l.runners
   -- a cell that the record has holds a number that the record has for it
   pub stands : AllJoined l s → (place number : ℕ) → HasLeft (s.part l.runners).records.left place number
       → StandsSeen (s.part l.runners).records.left place (s.word (Cell place))

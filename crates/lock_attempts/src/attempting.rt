@@ -61,10 +61,10 @@ fn plan_and_try<S: Structure, W: Walker, G: Gate, L>(
 
 /// Attempts a ticket's section once.
 ///
-/// The worker collects and sweeps where it has to, makes sure of two node slots and one descriptor, enters, plans the
-/// section by this walk, publishes it in its lock, runs it, lets its guard go and leaves. The ticket is one of the
-/// worker's own requests, the next one of its trace; the worker is idle, with an empty hand. The walk has loaded
-/// nothing, and leads a plan on this structure, whose sections want what was read.
+/// The worker collects and sweeps where it has to, makes sure of two node slots, one descriptor and the blocks for two
+/// logs, enters, plans the section by this walk, publishes it in its lock, runs it, lets its guard go and leaves. The
+/// ticket is one of the worker's own requests, the next one of its trace; the worker is idle, with an empty hand. The
+/// walk has loaded nothing, and leads a plan on this structure, whose sections want what was read.
 ///
 /// - `Ok`: the section that was planned happened once, and answered with this number: its thunk is the walk's own, by
 ///   the words that the walk read; each word that it wants was the agreed one, and each of its Stores moved its cell in
@@ -75,7 +75,8 @@ fn plan_and_try<S: Structure, W: Walker, G: Gate, L>(
 /// - `Far`: the walk is too long, by its own plan.
 /// - `Spent`: a lock or a cell has too few versions left.
 /// - `Short`: after three scans in a row and a walk over the board fewer than two node slots were free, or after a sweep
-///   no descriptor, since guard words of other runners name all that are in limbo.
+///   no descriptor, since guard words of other runners name all that are in limbo, or fewer blocks than two logs may
+///   want, since they keep the others.
 /// - `Halted`: the gate halted the worker. Exactly then its count of halts rose.
 ///
 /// At every answer but `Ok` and `Halted` nothing happened: nobody has served the ticket, and the section that was

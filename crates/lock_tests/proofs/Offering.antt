@@ -5,6 +5,7 @@ use Rattle.std.proofs.lemmas.Bool.Decides.{nat_tests}
 use Rattle.machine_states.specs.body_terms.specs.Word.{value_of, version_of, is_free, is_spent}
 use Rattle.machine_states.specs.body_terms.specs.declared.outcome.Refused.{Refused}
 use Rattle.machine_states.specs.body_terms.specs.declared.thunk.Thunk.{Thunk}
+use Rattle.machine_states.specs.table_words.specs.Places.{attempt_blocks}
 use Rattle.machine_states.specs.table_words.specs.declared.layout.Layout.{Layout}
 use Rattle.machine_states.specs.structure_laws.specs.Meaning.{Meaning}
 use Rattle.machine_states.specs.structure_laws.specs.Tray.{tray}
@@ -16,6 +17,7 @@ use Rattle.settled_tables.specs.closed_words.specs.version_words.specs.RunnerSta
 use Rattle.settled_tables.specs.closed_words.specs.version_words.specs.TableState.{TableState, IsOf}
 use Rattle.hash_table.specs.try_lock.specs.declared.section.Section.{Section}
 use Rattle.hash_table.specs.try_lock.specs.Publishes.{MayPublish, Publishes}
+use Rattle.hash_table.specs.try_lock.proofs.Blocks.{for_one}
 use Rattle.lock_tests.specs.declared.offers.Offer.{Offer}
 use Rattle.lock_tests.specs.declared.offers.Offer.TheVariants.{Published}
 use Rattle.lock_tests.specs.Scenes.{two_requests, IsScene}
@@ -55,8 +57,8 @@ module _ {T : Type 0} (t : TableState T) (r : RunnerState T) (thunk : Thunk) (ow
 
 -- a section that was published may be run
 module _ {T : Type 0} (m : Meaning) (old new : RunnerState T) (thunk : Thunk) (answer : Result Section Refused) (publishes : Publishes m thunk answer old new) (may : MayPublish m old thunk) where
-  pub may_run : 2 ≤ length old.part.nodes.free → IsEmptyHanded old → (section : Section) → answer ≡ Ok section → MayRun m section new
-  may_run reserve hand section ok =
+  pub may_run : 2 ≤ length old.part.nodes.free → attempt_blocks ≤ length old.part.blocks.free → IsEmptyHanded old → (section : Section) → answer ≡ Ok section → MayRun m section new
+  may_run reserve blocks hand section ok =
       let won = (subst (λ a. Publishes m thunk a old new) ok publishes).published in
       record {
         thunk = thunk;
@@ -66,6 +68,7 @@ module _ {T : Type 0} (m : Meaning) (old new : RunnerState T) (thunk : Thunk) (a
           at = won.at may.epoch may.at;
           section = won.section;
           reserve = subst (λ (n : NodesState). 2 ≤ length n.free) (sym publishes.nodes) reserve;
+          blocks = (let had = for_one (length old.part.blocks.free) blocks in let more = publishes.blocks in omega (arith, had, more));
           reached = publishes.reached;
         };
         hand = record {
@@ -76,9 +79,9 @@ module _ {T : Type 0} (m : Meaning) (old new : RunnerState T) (thunk : Thunk) (a
       }
 
   -- and it is of the thunk's request
-  pub may_run_for : 2 ≤ length old.part.nodes.free → IsEmptyHanded old → (section : Section) → answer ≡ Ok section → (number : ℕ) → thunk.request ≡ number → MayRunFor m number section new
+  pub may_run_for : 2 ≤ length old.part.nodes.free → attempt_blocks ≤ length old.part.blocks.free → IsEmptyHanded old → (section : Section) → answer ≡ Ok section → (number : ℕ) → thunk.request ≡ number → MayRunFor m number section new
   unfolding may_run
-  may_run_for reserve hand section ok number request = record { run = may_run reserve hand section ok; request = request }
+  may_run_for reserve blocks hand section ok number request = record { run = may_run reserve blocks hand section ok; request = request }
 
 abbrev section_or : Section → Offer → Section
 section_or d (Published s) = s

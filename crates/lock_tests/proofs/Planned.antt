@@ -1,10 +1,11 @@
 -- What a plan of the worker's next request gives to the publication of its section, and this to its run.
-use Rattle.std.proofs.Common.{◌≡◌, ℕ, ◌≤◌, ◌++◌, length, true, sym, ap, subst, ◌∙◌, Some, None}
+use Rattle.std.proofs.Common.{◌≡◌, ℕ, ◌≤◌, ◌++◌, length, true, sym, ap, subst, ◌∙◌, arith, Some, None}
 use Rattle.std.specs.Prelude.{◌&&◌, not, slice_get}
 use Rattle.machine_states.specs.map_history.specs.declared.op.Request.{Request}
 use Rattle.machine_states.specs.body_terms.specs.Word.{is_spent}
 use Rattle.machine_states.specs.body_terms.specs.declared.thunk.Thunk.{Thunk}
 use Rattle.settled_tables.specs.settling.specs.runner_gate.specs.Asks.{Asks}
+use Rattle.machine_states.specs.table_words.specs.Places.{attempt_blocks}
 use Rattle.machine_states.specs.structure_laws.specs.Meaning.{Meaning}
 use Rattle.machine_states.specs.runner_parts.specs.State.{DescriptorsState, GuardsState, NodesState, ReadsState}
 use Rattle.machine_states.specs.runner_parts.specs.Tests.{has_pair, is_next, serves}
@@ -34,6 +35,9 @@ module _ {T : Type 0} (m : Meaning) (idle entered : RunnerState T) (enters : Ent
     module _ (due : IsDue request idle) where
       pub planned_nodes : 2 ≤ length r.part.nodes.free
       planned_nodes = subst (λ (x : NodesState). 2 ≤ length x.free) (sym (so.walked.keeps.nodes ∙ enters.keeps.nodes)) due.reserve.nodes
+
+      pub planned_blocks : attempt_blocks ≤ length r.part.blocks.free
+      planned_blocks = let had = due.reserve.blocks in let entered_too = enters.keeps.blocks in let more = so.walked.keeps.blocks in omega (arith, had, entered_too, more)
 
       pub planned_hand : IsEmptyHanded r
       planned_hand = let nodes = so.walked.keeps.nodes ∙ enters.keeps.nodes in record {

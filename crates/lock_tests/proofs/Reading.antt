@@ -1,5 +1,5 @@
 -- What a worker has that has read a lock.
-use Rattle.std.proofs.Common.{◌≡◌, ℕ, ◌≤◌, length, true, sym, ap, subst, ◌∙◌, Some, None}
+use Rattle.std.proofs.Common.{◌≡◌, ℕ, ◌≤◌, length, true, sym, ap, subst, ◌∙◌, arith, Some, None}
 use Rattle.machine_states.specs.structure_laws.specs.Meaning.{Meaning}
 use Rattle.machine_states.specs.structure_laws.specs.Laws.{Laws}
 use Rattle.machine_states.specs.epoch_core.specs.declared.stage.Stage.TheVariants as stages
@@ -13,7 +13,7 @@ use Rattle.settled_tables.specs.closed_words.specs.version_words.specs.Naming.{l
 use Rattle.settled_tables.specs.closed_words.specs.version_words.specs.Stages.{IsAt}
 use Rattle.settled_tables.specs.closed_words.specs.version_words.proofs.Stages.{then_loaded_cell}
 use Rattle.hash_table.specs.try_lock.specs.epoch_slots.specs.Entries.{Enters}
-use Rattle.hash_table.specs.try_lock.specs.epoch_slots.proofs.Outside.{nodes_made, descriptors_made, guards_made, reads_made, known_made}
+use Rattle.hash_table.specs.try_lock.specs.epoch_slots.proofs.Outside.{nodes_made, descriptors_made, no_fewer_blocks, guards_made, reads_made, known_made}
 use Rattle.hash_table.specs.try_lock.specs.Reached.{IsReached}
 use Rattle.hash_table.specs.try_lock.proofs.Watching.{same_looked}
 use Rattle.lock_attempts.specs.attempts.specs.runner_facts.proofs.Names.{pair_last}
@@ -48,6 +48,8 @@ module _ {T : Type 0} (m : Meaning) (laws : Laws m) (t : TableState T) where
         reserve = record {
           nodes = subst (λ (n : NodesState). 2 ≤ length n.free) (sym nodes) ready.reserve.nodes;
           descriptors = subst (λ (d : DescriptorsState). 1 ≤ length d.free) (sym descriptors) ready.reserve.descriptors;
+          blocks = (let had = ready.reserve.blocks in let entered_too = enters.keeps.blocks in
+              let more = no_fewer_blocks m (kinds.LoadCell (Some place)) word entered r load resting in omega (arith, had, entered_too, more));
         };
         hand = record {
           hand = ap (λ (n : NodesState). n.hand) nodes ∙ ready.fresh.tidy.hand;

@@ -16,6 +16,7 @@ use Rattle.settled_tables.specs.closed_words.specs.version_words.specs.RunnerSta
 use Rattle.settled_tables.specs.closed_words.specs.version_words.specs.Events.{IsMade}
 use Rattle.settled_tables.specs.closed_words.specs.version_words.specs.Stages.{IsAt}
 use Rattle.hash_table.specs.try_lock.specs.commit_log.specs.Runs.{Ran}
+use Rattle.hash_table.specs.try_lock.specs.commit_log.proofs.Running.{moved_same}
 use Rattle.hash_table.specs.try_lock.specs.section_runs.specs.declared.runs.RunEnd.{RunEnd}
 use Rattle.hash_table.specs.try_lock.specs.section_runs.specs.declared.runs.RunEnd.TheVariants.{Done, Halted}
 use Rattle.hash_table.specs.try_lock.specs.epoch_slots.specs.Collects.{IsTidy}
@@ -24,6 +25,7 @@ use Rattle.hash_table.specs.try_lock.specs.declared.section.Section.{Section}
 use Rattle.hash_table.specs.try_lock.specs.Reached.{MayRunSection, MayHelp}
 use Rattle.hash_table.specs.try_lock.specs.Ends.{EndsSo, IsCutShort}
 use Rattle.hash_table.specs.try_lock.specs.Watches.{Watched}
+use Rattle.hash_table.specs.try_lock.proofs.Blocks.{for_one}
 use Rattle.lock_attempts.specs.attempts.specs.Course.{HasGone}
 use Rattle.lock_attempts.specs.attempts.specs.Rests.{MayLetGo}
 use Rattle.lock_attempts.specs.attempts.proofs.Leaving.{ended_at, ended_hand}
@@ -49,7 +51,7 @@ module _ {T : Type 0} (m : Meaning) where
 
   ran_number : (n : ℕ) (old new : RunnerState T) → Ran m n old new → new.number ≡ old.number
   ran_number zero old new same = ap (λ (r : RunnerState T). r.number) same
-  ran_number (suc n) old new (r, q, micro, found, step, rest) = ran_number n r new rest ∙ ap (λ (y : RunnerState T). y.number) step.event.made
+  ran_number (suc n) old new (r, q, found, moved, rest) = ran_number n r new rest ∙ ap (λ (y : RunnerState T). y.number) (moved_same m q found old r moved)
 
   -- a worker that was halted in a run has its number
   pub cut_number : (d made : ℕ) (old new : RunnerState T) → IsCutShort m d made old new → new.number ≡ old.number
@@ -65,6 +67,7 @@ module _ {T : Type 0} (m : Meaning) where
     names = some;
     sure = watched.sure refl;
     reserve = subst (λ (n : NodesState). 2 ≤ length n.free) (sym watched.keeps.nodes) read.reserve.nodes;
+    blocks = (let had = for_one (length r.part.blocks.free) read.reserve.blocks in let more = watched.keeps.blocks in omega (arith, had, more));
     reached = watched.reached;
   }
 

@@ -11,7 +11,8 @@ use Rattle.hash_table.specs.try_lock.specs.epoch_slots.specs.Collects.{IsTidy}
 use Rattle.hash_table.specs.try_lock.specs.Reached.{IsReached, MayHelp, MayRunSection}
 use Rattle.hash_table.specs.try_lock.specs.Watches.{MayWatch}
 use Rattle.hash_table.specs.try_lock.specs.declared.section.Section.{Section}
--- two node slots and one descriptor are free; no slot is in the runner's hand, and no sweep in progress
+-- two node slots, one descriptor and the blocks for two logs are free; no slot is in the runner's hand, and no sweep in
+-- progress
 pub use Rattle.lock_attempts.specs.attempts.specs.Course.{HasReserve, IsEmptyHanded}
 
 module _ {T : Type 0} where

@@ -9,7 +9,7 @@ use lock_attempts::attempts::reserve_slots;
 use machine_states::structure_laws::Structure;
 use std::alloc::{AllocError, Global};
 
-/// The worker, where two node slots and one descriptor are free.
+/// The worker, where two node slots, one descriptor and the blocks for two logs are free.
 fn with_reserve<S: Structure>(worker: Runner<S>) -> Result<Runner<S>, AllocError>
     ensures same { IfOk result (λ x. x ≡ worker) }
     ensures reserve { IfOk result HasReserve }

@@ -1,5 +1,5 @@
 -- Loads of cells outside a run, one after the other.
-use Rattle.std.proofs.Common.{◌≡◌, ℕ, ◌+◌, ◌*◌, ◌<◌, List, [], ◌∷◌, ◌++◌, append-nil, Bool, true, refl, sym, ap, subst, ◌∙◌, Option, Some, None}
+use Rattle.std.proofs.Common.{◌≡◌, ℕ, ◌+◌, ◌*◌, ◌<◌, List, [], ◌∷◌, ◌++◌, append-nil, Bool, true, refl, sym, ap, subst, ◌∙◌, arith, Option, Some, None}
 use Rattle.std.specs.Prelude.{if◌then◌else◌, ◌&&◌}
 use Rattle.std.proofs.lemmas.List.{append_assoc}
 use Rattle.machine_states.specs.table_words.specs.declared.spot.Spot.TheVariants as spots
@@ -58,7 +58,7 @@ module _ {T : Type 0} (m : Meaning) where
     reads = (λ i. record { walk = none r.part.reads.walk i; cells = none r.part.reads.cells i; look = r.part.reads.look });
     guarded = refl;
     looked = refl;
-    keeps = record { number = refl; nodes = refl; descriptors = refl; known = refl; finished = refl };
+    keeps = record { number = refl; nodes = refl; descriptors = refl; blocks = omega arith; known = refl; finished = refl };
     same = refl;
   }
     where

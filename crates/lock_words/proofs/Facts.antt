@@ -1,6 +1,6 @@
 -- What the whole invariant says of a section that is in its descriptor.
 use Rattle.std.specs.Prelude.{◌==◌, ◌||◌, cond, Bool, true, false}
-use Rattle.std.proofs.Common.{◌≡◌, ℕ, ◌+◌, ◌<◌, List, [], ◌∷◌, refl, sym, ap, ◌∙◌, ⊎_elim, arith}
+use Rattle.std.proofs.Common.{◌≡◌, ℕ, ◌+◌, ◌<◌, List, [], ◌∷◌, refl, ap, ◌∙◌, ⊎_elim, arith}
 use Rattle.std.proofs.lemmas.Bool.Decides.{nat_tests}
 use Rattle.machine_states.specs.body_terms.specs.Line.{line, micro_at}
 use Rattle.agreement_core.specs.section_lines.specs.Line.{IsLine}
@@ -19,10 +19,8 @@ use Rattle.machine_states.specs.epoch_core.specs.Sound.{is_for_nodes}
 use Rattle.machine_states.specs.Sight.{Sight}
 use Rattle.machine_epochs.specs.Entries.{counts_of}
 use Rattle.machine_epochs.specs.Slots.{thunk_in}
-use Rattle.machine_epochs.proofs.Places.{free_descriptor}
 use Rattle.machine_scenes.specs.Shown.{rules_of}
 use Rattle.runner_facts.specs.machine_facts.specs.machine_invariant.specs.Whole.{Beside, IsWhole}
-use Rattle.runner_facts.specs.machine_facts.specs.machine_invariant.proofs.Basics.{by_bool}
 use Rattle.lock_words.specs.Taken.{CommitsLock}
 
 -- a number that a list hasn't
@@ -62,10 +60,6 @@ module _ (m : Meaning) (l : Layout) (b : Beside) (s : Sight) (whole : IsWhole m 
           let there = whole.slots.listed.free_descriptors r d few ∙ (ap (in_free r) is ∙ free_once r) in
           let none = no_times (s.part r).descriptors.free d (unfree r) in
           omega (arith, there, none))
-
-  pub unfree_of : (d : ℕ) → a.used d ≡ true → (r : ℕ) → has (s.part r).descriptors.free d ≡ false
-  unfree_of d used r = by_bool (has (s.part r).descriptors.free d) (λ free.
-      let out = sym used ∙ (whole.tied.used d ∙ ap is_out (free_descriptor m l b.epochs s whole.slots r d (whole.tied.within d used) free)) in cc)
 
   module _ (d : ℕ) (used : a.used d ≡ true) where
     pub line_of_section : IsLine m.is_lock l.version_max (a.section d).lock (a.section d).code (a.section d).slot

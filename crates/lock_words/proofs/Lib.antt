@@ -3,7 +3,7 @@ pub mod Agreed
 pub mod Kept
 pub mod Reached
 mod Facts
-mod Freeing
+mod Sure
 mod Loading
 mod Agreeing
 mod TakenLeaving

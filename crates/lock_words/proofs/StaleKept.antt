@@ -1,8 +1,8 @@
 -- A section that leaves since it found another word than the expected one found another one: over one step of the
 -- machine. The word that is agreed behind the exchange of a Take was loaded there, where the lock is past the free word
 -- that was expected.
-use Rattle.std.specs.Prelude.{Bool, true, false}
-use Rattle.std.proofs.Common.{◌≡◌, ◌≢◌, ℕ, suc, ◌<◌, List, length, refl, sym, ap, ◌∙◌, subst, ⊎_elim, inr, arith, Some}
+use Rattle.std.specs.Prelude.{true}
+use Rattle.std.proofs.Common.{◌≡◌, ◌≢◌, ℕ, suc, ◌<◌, List, length, sym, ap, ◌∙◌, subst, ⊎_elim, inr, arith, Some}
 use Rattle.machine_states.specs.map_history.specs.declared.op.Request.{Request}
 use Rattle.machine_states.specs.body_terms.specs.Line.{line, micro_at, is_commit}
 use Rattle.machine_states.specs.body_terms.specs.Run.{leaves}
@@ -13,33 +13,33 @@ use Rattle.machine_states.specs.body_terms.specs.declared.outcome.Outcome.TheVar
 use Rattle.machine_states.specs.body_terms.specs.declared.thunk.Thunk.{Thunk}
 use Rattle.agreement_core.specs.section_lines.specs.Line.{IsLine}
 use Rattle.machine_states.specs.table_words.specs.declared.layout.Layout.{Layout}
-use Rattle.machine_states.specs.table_words.specs.declared.spot.Spot.TheVariants.{Cell, LogWord}
+use Rattle.machine_states.specs.table_words.specs.declared.spot.Spot.TheVariants.{Cell}
 use Rattle.machine_states.specs.table_words.specs.Limits.{IsWithinLimits}
-use Rattle.machine_states.specs.table_words.specs.Places.{descriptor_count}
 use Rattle.machine_states.specs.structure_laws.specs.Meaning.{Meaning}
 use Rattle.machine_states.specs.structure_laws.specs.Laws.{Laws}
 use Rattle.machine_states.specs.runner_parts.specs.declared.event.EventKind.{EventKind}
 use Rattle.machine_states.specs.runner_parts.specs.State.{RunState, FinishedState, PartState}
-use Rattle.machine_states.specs.runner_parts.specs.Tests.{has}
 use Rattle.machine_states.specs.runner_steps.specs.Sections.{setting_of, line_of, reply_in, thunk_of}
 use Rattle.agreement_core.specs.State.{AgreementState, Section}
 use Rattle.machine_states.specs.Sight.{Sight}
 use Rattle.machine_epochs.specs.Slots.{thunk_in}
-use Rattle.runner_facts.specs.machine_facts.specs.machine_invariant.proofs.Basics.{not_both}
 use Rattle.runner_facts.specs.machine_facts.specs.machine_invariant.proofs.Trails.{run_used}
 use Rattle.runner_facts.specs.machine_facts.specs.machine_agreement.proofs.RunPlaces.{code_here}
 use Rattle.runner_facts.specs.machine_facts.specs.machine_invariant.proofs.Keeping.{IsStep}
-use Rattle.runner_facts.proofs.Names.{thunk_stays}
+use Rattle.runner_facts.proofs.Names.{thunk_stays, sure_unfree}
 use Rattle.runner_facts.specs.machine_facts.proofs.FinishedParts as finished_parts
 use Rattle.lock_words.proofs.Kept as runs_over
 use Rattle.lock_words.specs.Stale.{StaleStand}
 use Rattle.lock_words.proofs.Agreed.{agreed, edge}
 use Rattle.lock_words.proofs.Agreeing.{Brings, agreed_from}
-use Rattle.lock_words.proofs.Facts.{used_of, unfree_of, line_of_section, code_is}
-use Rattle.lock_words.proofs.Freeing.{free_or_empty, unfree_before}
+use Rattle.lock_words.proofs.Facts.{line_of_section, code_is}
+use Rattle.lock_words.proofs.Sure.{sure_used, emptied, sure_before}
 use Rattle.lock_words.proofs.Loading.{Was, loaded_before}
 use Rattle.lock_words.proofs.StaleLeaving.{IsHeldCheck, differs, not_reply}
-use Rattle.runner_facts.specs.machine_facts.specs.machine_invariant.proofs.Holding.{own_words}
+use Rattle.machine_states.specs.runner_parts.specs.block_words.specs.Blocks.{log_in}
+use Rattle.runner_facts.specs.machine_facts.specs.machine_invariant.specs.After.{AreAllowed}
+use Rattle.runner_facts.specs.machine_facts.specs.machine_invariant.specs.machine_blocks.proofs.Holding.{log_read}
+use Rattle.runner_facts.specs.machine_facts.specs.machine_invariant.proofs.LogSteps.{IsSure}
 
 module _ (m : Meaning) (s : Sight) (d place free word : ℕ) where
   -- the section in this descriptor has agreed on this word as the outcome of its Take of this lock, which was expected
@@ -49,7 +49,7 @@ module _ (m : Meaning) (s : Sight) (d place free word : ℕ) where
     pub log : ℕ
     pub hold : micro_at (line (m.body (thunk_in s.word d))) at ≡ NestedHold place free
     pub commit : micro_at (line (m.body (thunk_in s.word d))) (suc (suc at)) ≡ OutcomeCommit place log
-    pub agreed : s.word (LogWord d log) ≡ word
+    pub agreed : log_in s.word d log ≡ word
 
   -- a run of it has loaded the word, and commits it next
   pub record IsFound : Type 0 where
@@ -65,19 +65,14 @@ module _ (m : Meaning) (s : Sight) (d place free word : ℕ) where
     pub commit : micro_at (line_of m run) run.at ≡ OutcomeCommit place log
     pub loaded : run.word ≡ word
 
--- the descriptor is in nobody's free list
-pub record IsOut (l : Layout) (s : Sight) (d : ℕ) : Type 0 where
-  pub few : d < descriptor_count l
-  pub unfree : (r : ℕ) → has (s.part r).descriptors.free d ≡ false
-
 -- such a word is later than the expected one, and what runners keep
 pub record AllDiffer (m : Meaning) (l : Layout) (s : Sight) : Type 0 where
-  pub agreed : (d place free word : ℕ) → IsOut l s d → IsOutcome m s d place free word → word ≢ 0
+  pub agreed : (d place free word : ℕ) → IsSure s d → IsOutcome m s d place free word → word ≢ 0
       → version_of free < version_of word
   pub found : (d place free word : ℕ) → IsFound m s d place free word → version_of free < version_of word
   pub stale : StaleStand s
 
-module _ (m : Meaning) (laws : Laws m) (l : Layout) (limits : IsWithinLimits l) (rs : List Request) (s s' : Sight) (r : ℕ) (kind : EventKind)
+module _ (m : Meaning) (laws : Laws m) (l : Layout) (limits : IsWithinLimits l) (rs : List Request) (allowed : AreAllowed rs) (s s' : Sight) (r : ℕ) (kind : EventKind)
     (st : IsStep m l rs s s' r kind) (old : AllDiffer m l s) where
   abbrev p : PartState
   p = s.part r
@@ -130,34 +125,29 @@ module _ (m : Meaning) (laws : Laws m) (l : Layout) (limits : IsWithinLimits l) 
           (past load.runner was.run was.runs full load.at place free
           (let one = new.1 in let two = load.there in omega (arith, one, two)) hold)
 
-  agreed_after : (d place free word : ℕ) → IsOut l s' d → IsOutcome m s' d place free word → word ≢ 0
+  agreed_after : (d place free word : ℕ) → IsSure s' d → IsOutcome m s' d place free word → word ≢ 0
       → version_of free < version_of word
-  agreed_after d place free word out outcome some = by (has p.descriptors.free d) refl
+  agreed_after d place free word behind outcome some = ⊎_elim by_section
+      (λ holds. absurd (some (sym outcome.agreed ∙ emptied m l rs s s' r kind st d holds outcome.log)))
+      (sure_before m l rs s s' r kind st d behind)
     where
-      by : (b : Bool) → has p.descriptors.free d ≡ b → version_of free < version_of word
-      by true free_before = absurd (⊎_elim
-          (λ still. not_both still (out.unfree r))
-          (λ empty. some (sym outcome.agreed ∙ empty outcome.log))
-          (free_or_empty m l rs s s' r kind st d free_before))
-      by false none = ⊎_elim stood brings
-          (agreed_from m laws l limits rs s s' r kind st d used none place word
+      by_section : IsSure s d → version_of free < version_of word
+      by_section before = ⊎_elim stood brings
+          (agreed_from m laws l limits rs allowed s s' r kind st d before behind place word
           (record { at = suc (suc outcome.at); log = outcome.log; commits = inr outcome.commit; agreed = outcome.agreed }))
         where
-          unfree : (i : ℕ) → has (s.part i).descriptors.free d ≡ false
-          unfree = unfree_before m l rs s s' r kind st d none out.unfree
-
           used : a.used d ≡ true
-          used = used_of m l st.beside s st.whole d out.few unfree
+          used = sure_used m l st.beside s st.whole d before
 
           same : thunk_in s'.word d ≡ thunk_in s.word d
-          same = thunk_stays m laws l limits rs s s' r kind st d none
+          same = thunk_stays m laws l limits rs s s' r kind st d (sure_unfree m l st.beside s st.whole before.0 d before.1 r)
 
           line_before : (i : ℕ) (micro : Micro) → micro_at (line (m.body (thunk_in s'.word d))) i ≡ micro
               → micro_at (line (m.body (thunk_in s.word d))) i ≡ micro
           line_before i micro is = ap (λ (t : Thunk). micro_at (line (m.body t)) i) (sym same) ∙ is
 
-          stood : s.word (LogWord d outcome.log) ≡ word → version_of free < version_of word
-          stood is = old.agreed d place free word (record { few = out.few; unfree = unfree }) (record {
+          stood : log_in s.word d outcome.log ≡ word → version_of free < version_of word
+          stood is = old.agreed d place free word before (record {
             at = outcome.at;
             log = outcome.log;
             hold = line_before outcome.at (NestedHold place free) outcome.hold;
@@ -165,7 +155,7 @@ module _ (m : Meaning) (laws : Laws m) (l : Layout) (limits : IsWithinLimits l) 
             agreed = is;
           }) some
 
-          brings : Brings m laws l limits rs s s' r kind st d used none place word (suc (suc outcome.at)) outcome.log
+          brings : Brings m laws l limits rs allowed s s' r kind st d before behind place word (suc (suc outcome.at)) outcome.log
               → version_of free < version_of word
           brings load = old.found d place free word (record {
             runner = r;
@@ -203,6 +193,9 @@ module _ (m : Meaning) (laws : Laws m) (l : Layout) (limits : IsWithinLimits l) 
       used : a.used q.descriptor ≡ true
       used = run_used m l a s st.whole.sections r q new.runs
 
+      sure : IsSure s q.descriptor
+      sure = (r, (st.whole.slots.tied r).run_sure q new.runs)
+
       sec : Section
       sec = a.section q.descriptor
 
@@ -229,13 +222,13 @@ module _ (m : Meaning) (laws : Laws m) (l : Layout) (limits : IsWithinLimits l) 
           let some : 0 < sec.log held.log = (st.whole.sections.sound.sections q.descriptor used).section.in_log.full held.log
           (omega (arith, slot, more, rises)) in
           let later = old.agreed q.descriptor place expected read
-          (record { few = st.whole.tied.within q.descriptor used; unfree = unfree_of m l st.beside s st.whole q.descriptor used })
+          sure
           (record {
             at = before.0;
             log = held.log;
             hold = in_section before.0 ∙ before.2;
             commit = in_section at ∙ before.3;
-            agreed = own_words m l st.whole.logs q.descriptor held.log ∙ word;
+            agreed = log_read m l st.whole.logs sure.0 q.descriptor sure.1 held.log ∙ word;
           })
           (λ zero. omega (arith, some, word, zero)) in
           let equal = ap version_of same in

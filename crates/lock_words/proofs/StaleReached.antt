@@ -1,16 +1,12 @@
 -- So it is in every reached state.
-use Rattle.std.specs.Prelude.{cond, slice_get, slice_index, Bool, true, false}
-use Rattle.std.proofs.Common.{◌≡◌, ℕ, List, refl, sym, ap, ◌∙◌, subst, Some, None}
+use Rattle.std.specs.Prelude.{slice_get, true}
+use Rattle.std.proofs.Common.{◌≡◌, ℕ, List, sym, subst, Some, None}
 use Rattle.machine_states.specs.map_history.specs.declared.op.Request.{Request}
 use Rattle.machine_states.specs.table_words.specs.declared.layout.Layout.{Layout}
-use Rattle.machine_states.specs.table_words.specs.declared.spot.Spot.TheVariants.{LogWord}
 use Rattle.machine_states.specs.table_words.specs.Limits.{IsWithinLimits}
-use Rattle.machine_states.specs.table_words.specs.Places.{address, fits}
-use Rattle.machine_states.specs.table_words.proofs.Seen as words
 use Rattle.machine_states.specs.structure_laws.specs.Meaning.{Meaning}
 use Rattle.machine_states.specs.structure_laws.specs.Laws.{Laws}
 use Rattle.machine_states.specs.runner_parts.specs.State.{PartState, RunState, FinishedState}
-use Rattle.machine_states.specs.runner_steps.specs.Asks.{sizes_for}
 use Rattle.machine_states.specs.First.{IsFirst}
 use Rattle.machine_states.specs.World.{World}
 use Rattle.machine_states.specs.Reached.{Reached}
@@ -20,17 +16,19 @@ use Rattle.machine_states.proofs.Steps.{none_some}
 use Rattle.machine_epochs.proofs.FirstJoin as FirstJoin
 use Rattle.runner_facts.specs.machine_facts.specs.machine_invariant.specs.After.{AreAllowed}
 use Rattle.runner_facts.specs.machine_facts.specs.machine_invariant.proofs.Keeping.{reached_keeps}
+use Rattle.machine_states.specs.runner_steps.specs.Outside.{is_sure_of}
+use Rattle.runner_facts.specs.machine_facts.specs.machine_invariant.proofs.LogSteps.{IsSure}
 use Rattle.lock_words.specs.Stale.{StaleStand}
 use Rattle.lock_words.proofs.StaleKept.{AllDiffer, all_differ}
 
 module _ (m : Meaning) (laws : Laws m) (l : Layout) (limits : IsWithinLimits l) (rs : List Request) (allowed : AreAllowed rs) where
-  -- at first no log has a word
-  unlogged : (w : World) → IsFirst m l rs w → (d k : ℕ) → (sight m l rs w).word (LogWord d k) ≡ 0
-  unlogged w first d k = by_fit (fits (sizes_for m l rs) (LogWord d k)) refl
+  -- at first nobody is sure of a descriptor
+  unsure : (w : World) → IsFirst m l rs w → (d : ℕ) → IsSure (sight m l rs w) d → ⊥
+  unsure w first d sure = none sure.0 sure.1
     where
-      by_fit : (b : Bool) → fits (sizes_for m l rs) (LogWord d k) ≡ b → (sight m l rs w).word (LogWord d k) ≡ 0
-      by_fit true e = first.words.seen (LogWord d k) (words.fits_means (sizes_for m l rs) (LogWord d k) e)
-      by_fit false e = ap (λ b. cond b (slice_index w.words (address (sizes_for m l rs) (LogWord d k))) 0) e
+      none : (i : ℕ) → is_sure_of ((sight m l rs w).part i).guards d ≡ true → ⊥
+      none i = subst (λ (p : PartState). is_sure_of p.guards d ≡ true → ⊥) (sym (first_parts m l w.parts first.parts i))
+          (FirstJoin.each_part m l (λ p. is_sure_of p.guards d ≡ true → ⊥) (λ z. let e = z in cc) (λ k z. let e = z in cc) (λ z. let e = z in cc) i)
 
   -- nobody is in a run, and nothing is kept
   abbrev IsEmpty : PartState → Type 0
@@ -45,11 +43,11 @@ module _ (m : Meaning) (laws : Laws m) (l : Layout) (limits : IsWithinLimits l) 
 
   first_differ : (w : World) → IsFirst m l rs w → AllDiffer m l (sight m l rs w)
   first_differ w first = record {
-    agreed = λ d place free word out outcome some. absurd (some (sym outcome.agreed ∙ unlogged w first d outcome.log));
+    agreed = λ d place free word sure outcome some. absurd (unsure w first d sure);
     found = λ d place free word load. absurd ((empty w first load.runner).0 load.run load.runs);
     stale = record { finished = λ r i place expected read f at e. absurd ((empty w first r).1 i f at) };
   }
 
   pub reached_stale : (w : World) → Reached m l rs w → StaleStand (sight m l rs w)
   reached_stale w reached = (reached_keeps m laws l limits rs allowed (AllDiffer m l) first_differ
-      (λ s s' r kind st old. all_differ m laws l limits rs s s' r kind st old) w reached).stale
+      (λ s s' r kind st old. all_differ m laws l limits rs allowed s s' r kind st old) w reached).stale

@@ -1,6 +1,6 @@
 -- What is known of the words of Takes, over one step of the machine.
-use Rattle.std.specs.Prelude.{◌==◌, ◌-◌, Bool, true, false, slice_get}
-use Rattle.std.proofs.Common.{◌≡◌, ℕ, suc, ◌<◌, List, length, refl, sym, ap, ◌∙◌, subst, ⊎_elim, inl, inr, arith, Some}
+use Rattle.std.specs.Prelude.{◌==◌, ◌-◌, true, false, slice_get}
+use Rattle.std.proofs.Common.{◌≡◌, ℕ, suc, List, length, refl, sym, ap, ◌∙◌, subst, ⊎_elim, inl, inr, arith, Some}
 use Rattle.std.proofs.lemmas.Bool.Decides.{nat_tests}
 use Rattle.machine_states.specs.map_history.specs.declared.op.Request.{Request}
 use Rattle.machine_states.specs.body_terms.specs.Line.{line, micro_at}
@@ -9,19 +9,16 @@ use Rattle.machine_states.specs.body_terms.specs.declared.micro.Micro.{Micro}
 use Rattle.machine_states.specs.table_words.specs.declared.layout.Layout.{Layout}
 use Rattle.machine_states.specs.table_words.specs.declared.spot.Spot.TheVariants.{Cell}
 use Rattle.machine_states.specs.table_words.specs.Limits.{IsWithinLimits}
-use Rattle.machine_states.specs.table_words.specs.Places.{descriptor_count}
 use Rattle.machine_states.specs.structure_laws.specs.Meaning.{Meaning}
 use Rattle.machine_states.specs.structure_laws.specs.Laws.{Laws}
 use Rattle.machine_states.specs.runner_parts.specs.declared.event.Event.{Event}
 use Rattle.machine_states.specs.runner_parts.specs.declared.event.EventKind.{EventKind}
 use Rattle.machine_states.specs.runner_parts.specs.State.{FinishedState, PartState}
-use Rattle.machine_states.specs.runner_parts.specs.Tests.{has}
 use Rattle.machine_states.specs.runner_steps.specs.Sections.{line_of, reply_in, thunk_of}
 use Rattle.machine_states.specs.World.{World, happens}
 use Rattle.machine_states.specs.Reached.{Reached}
 use Rattle.machine_states.specs.Sight.{Sight, sight}
 use Rattle.runner_facts.specs.machine_facts.specs.machine_invariant.specs.After.{AreAllowed}
-use Rattle.runner_facts.specs.machine_facts.specs.machine_invariant.proofs.Basics.{not_both}
 use Rattle.runner_facts.specs.machine_facts.specs.machine_invariant.proofs.Trails.{run_used}
 use Rattle.runner_facts.specs.machine_facts.specs.machine_agreement.proofs.RunPlaces.{code_here}
 use Rattle.runner_facts.specs.machine_facts.specs.machine_invariant.proofs.Keeping.{IsStep}
@@ -29,16 +26,17 @@ use Rattle.runner_facts.specs.machine_facts.proofs.FinishedParts as finished_par
 use Rattle.runner_facts.specs.machine_facts.proofs.Watched.{carried_on}
 use Rattle.lock_words.proofs.Kept as runs_over
 use Rattle.lock_words.specs.Taken.{CommitsLock, IsAgreed, IsLoaded, IsTaken, HasLeftBy, WasHeld}
-use Rattle.lock_words.proofs.Facts.{used_of, unfree_of, commits_lock}
-use Rattle.lock_words.proofs.Freeing.{free_or_empty, unfree_before}
+use Rattle.lock_words.proofs.Facts.{commits_lock}
+use Rattle.lock_words.proofs.Sure.{run_sure, emptied, sure_before}
+use Rattle.runner_facts.specs.machine_facts.specs.machine_invariant.proofs.LogSteps.{IsSure}
 use Rattle.lock_words.proofs.Loading.{Was, loaded_before}
 use Rattle.lock_words.proofs.Agreeing.{agreed_before}
 use Rattle.lock_words.proofs.TakenLeaving.{left_agreed}
 
 -- what is known of these words, in a state
 pub record AllHeld (m : Meaning) (l : Layout) (rs : List Request) (w : World) : Type 0 where
-  -- of a section that is in its descriptor, those that it has agreed on for a Take, or that a run of it has loaded
-  pub taken : (d place word named : ℕ) → d < descriptor_count l → ((i : ℕ) → has ((sight m l rs w).part i).descriptors.free d ≡ false)
+  -- of a section of whose descriptor somebody is sure, those that it has agreed on for a Take, or that a run of it has loaded
+  pub taken : (d place word named : ℕ) → IsSure (sight m l rs w) d
       → IsTaken m (sight m l rs w) d place word → value_of word ≡ suc named → WasHeld m l rs w place word named
   -- those by which a section left
   pub met : (i place word : ℕ) → HasLeftBy ((sight m l rs w).part i) place word
@@ -70,13 +68,10 @@ module _ (m : Meaning) (laws : Laws m) (l : Layout) (limits : IsWithinLimits l) 
     stands = carried_on m laws l limits rs allowed w v e reached goes place word named was.lock names was.stands;
   }
 
-  -- a section that is in its descriptor before the step
-  module _ (d : ℕ) (used : st.beside.agreement.used d ≡ true) where
-    unfree : (i : ℕ) → has (s.part i).descriptors.free d ≡ false
-    unfree = unfree_of m l st.beside s st.whole d used
-
+  -- a section of whose descriptor somebody is sure before the step
+  module _ (d : ℕ) (sure : IsSure s d) where
     goes_on : (place word named : ℕ) → IsTaken m s d place word → value_of word ≡ suc named → WasHeld m l rs v place word named
-    goes_on place word named taken names = on place word named names (old.taken d place word named (st.whole.tied.within d used) unfree taken names)
+    goes_on place word named taken names = on place word named names (old.taken d place word named sure taken names)
 
   -- a word that is loaded behind the step
   by_load : (d place word named : ℕ) → IsLoaded m s' d place word → value_of word ≡ suc named → WasHeld m l rs v place word named
@@ -98,7 +93,7 @@ module _ (m : Meaning) (laws : Laws m) (l : Layout) (limits : IsWithinLimits l) 
       line_same i = ap (λ words. micro_at (line (m.body (thunk_of words))) i) (sym was.opened)
 
       before : (was.run.at ≡ load.run.at) × (was.run.word ≡ load.run.word) → WasHeld m l rs v place word named
-      before same = goes_on d used place word named
+      before same = goes_on d (run_sure m l st.beside s st.whole load.runner d was.run was.runs own) place word named
           (inr (record {
             runner = load.runner;
             run = was.run;
@@ -135,23 +130,17 @@ module _ (m : Meaning) (laws : Laws m) (l : Layout) (limits : IsWithinLimits l) 
   none_named word named zero names = let none : value_of 0 ≡ suc named = subst (λ w. value_of w ≡ suc named) zero names in absurd (omega arith)
 
   -- a word that is agreed behind the step
-  by_log : (d place word named : ℕ) → d < descriptor_count l → ((i : ℕ) → has (s'.part i).descriptors.free d ≡ false) → IsAgreed m s' d place word
+  by_log : (d place word named : ℕ) → IsSure s' d → IsAgreed m s' d place word
       → value_of word ≡ suc named → WasHeld m l rs v place word named
-  by_log d place word named few not_free agreed names = by (has p.descriptors.free d) refl
-    where
-      by : (b : Bool) → has p.descriptors.free d ≡ b → WasHeld m l rs v place word named
-      by true free = absurd (⊎_elim
-          (λ still. not_both still (not_free r))
-          (λ empty. none_named word named (sym agreed.agreed ∙ empty agreed.log) names)
-          (free_or_empty m l rs s s' r kind st d free))
-      by false none =
-          let used = used_of m l st.beside s st.whole d few (unfree_before m l rs s s' r kind st d none not_free) in
-          goes_on d used place word named (agreed_before m laws l limits rs s s' r kind st d used none place word agreed) names
+  by_log d place word named behind agreed names = ⊎_elim
+      (λ before. goes_on d before place word named (agreed_before m laws l limits rs allowed s s' r kind st d before behind place word agreed) names)
+      (λ holds. absurd (none_named word named (sym agreed.agreed ∙ emptied m l rs s s' r kind st d holds agreed.log) names))
+      (sure_before m l rs s s' r kind st d behind)
 
-  taken_after : (d place word named : ℕ) → d < descriptor_count l → ((i : ℕ) → has (s'.part i).descriptors.free d ≡ false) → IsTaken m s' d place word
+  taken_after : (d place word named : ℕ) → IsSure s' d → IsTaken m s' d place word
       → value_of word ≡ suc named → WasHeld m l rs v place word named
-  taken_after d place word named few not_free (inl agreed) names = by_log d place word named few not_free agreed names
-  taken_after d place word named few not_free (inr load) names = by_load d place word named load names
+  taken_after d place word named behind (inl agreed) names = by_log d place word named behind agreed names
+  taken_after d place word named behind (inr load) names = by_load d place word named load names
 
   -- a held word names a descriptor
   named_value : (n : ℕ) → (n == 0) ≡ false → n ≡ suc (n - 1)
@@ -171,12 +160,12 @@ module _ (m : Meaning) (laws : Laws m) (l : Layout) (limits : IsWithinLimits l) 
           → (named : ℕ) × (value_of word ≡ suc named) × WasHeld m l rs v place word named
       now new =
           let q = new.run in
-          let used = run_used m l st.beside.agreement s st.whole.sections r q new.runs in
+          let sure = run_sure m l st.beside s st.whole r q.descriptor q new.runs refl in
           let full = runs_over.open_length q new.open_run in
           let left = left_agreed m l st.beside s st.whole r q new.runs full (reply_in (m.body (thunk_of q.opened))) place word
           (ap (λ (f : FinishedState). f.outcome) new.is ∙ h.left) in
           let names = named_value (value_of word) left.1 in
-          (value_of word - 1, names, goes_on q.descriptor used place word (value_of word - 1) (inl left.0) names)
+          (value_of word - 1, names, goes_on q.descriptor sure place word (value_of word - 1) (inl left.0) names)
 
   pub all_held : AllHeld m l rs v
   all_held = record { taken = taken_after; met = met_after }

@@ -22,7 +22,7 @@ use Rattle.agreement_core.specs.section_lines.specs.Line.{IsLine}
 use Rattle.lock_words.proofs.Agreed.{agreed}
 use Rattle.lock_words.specs.Taken.{CommitsLock, IsAgreed}
 use Rattle.lock_words.proofs.Facts.{line_of_section, code_is}
-use Rattle.runner_facts.specs.machine_facts.specs.machine_invariant.proofs.Holding.{own_words}
+use Rattle.runner_facts.specs.machine_facts.specs.machine_invariant.specs.machine_blocks.proofs.Holding.{log_read}
 
 -- the check of a Take at which it leaves: its place in the log has the word
 abbrev IsCheckOf : Micro → ℕ → ℕ → Type 0
@@ -127,7 +127,7 @@ module _ (m : Meaning) (l : Layout) (b : Beside) (s : Sight) (whole : IsWhole m 
     at = i;
     log = log;
     commits = subst (λ (micro : Micro). CommitsLock micro place log) (code_is m l b s whole q.descriptor used i) commits;
-    agreed = own_words m l whole.logs q.descriptor log
+    agreed = log_read m l whole.logs r q.descriptor ((whole.slots.tied r).run_sure q runs) log
         ∙ (sym (agreed m l a s whole.sections r q runs full i log low commit slot) ∙ is);
   }
 

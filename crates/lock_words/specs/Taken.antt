@@ -7,8 +7,9 @@ use Rattle.machine_states.specs.body_terms.specs.declared.micro.Micro.{Micro}
 use Rattle.machine_states.specs.body_terms.specs.declared.micro.Micro.TheVariants.{NestedCommit, OutcomeCommit}
 use Rattle.machine_states.specs.body_terms.specs.declared.outcome.Outcome.TheVariants.{Busy}
 use Rattle.machine_states.specs.table_words.specs.declared.layout.Layout.{Layout}
-use Rattle.machine_states.specs.table_words.specs.declared.spot.Spot.TheVariants.{Cell, LogWord}
+use Rattle.machine_states.specs.table_words.specs.declared.spot.Spot.TheVariants.{Cell}
 use Rattle.machine_states.specs.table_words.specs.Places.{descriptor_count}
+use Rattle.machine_states.specs.runner_parts.specs.block_words.specs.Blocks.{log_in}
 use Rattle.machine_states.specs.structure_laws.specs.Meaning.{Meaning}
 use Rattle.machine_states.specs.runner_parts.specs.State.{RunState, FinishedState, PartState}
 use Rattle.machine_states.specs.runner_steps.specs.Sections.{line_of}
@@ -27,7 +28,7 @@ module _ (m : Meaning) (s : Sight) (d place word : ℕ) where
     pub at : ℕ
     pub log : ℕ
     pub commits : CommitsLock (micro_at (line (m.body (thunk_in s.word d))) at) place log
-    pub agreed : s.word (LogWord d log) ≡ word
+    pub agreed : log_in s.word d log ≡ word
 
   -- a run of it has loaded the word for the Take, and commits it next
   pub record IsLoaded : Type 0 where

@@ -112,7 +112,7 @@ more : (n : ℕ) → suc n ≡ n + 1
 more n = omega arith
 
 -- what a private store asks outside a run: a word of a descriptor, or of a block
-abbrev private_ask : Meaning → Layout → ℕ → ℕ → ℕ → PartState → Bool → Ask
+abbrev pub private_ask : Meaning → Layout → ℕ → ℕ → ℕ → PartState → Bool → Ask
 private_ask m l slot word number p b = let slots = slot_count l m.fixed_slots in let blocks = blocks_from m l in
     if b
     then when (nat_le slots slot && (is_resting p.stage p.run && has p.descriptors.free (slot - slots))) (descriptor_spot (slot - slots) word) (Stores number)

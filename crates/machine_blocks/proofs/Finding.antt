@@ -2,9 +2,10 @@
 use Rattle.std.specs.Prelude.{◌/◌, ◌⊎◌, cond, slice_index, length, Bool, true, false, if◌then◌else◌}
 use Rattle.std.proofs.Common.{◌≡◌, inl, inr, ℕ, ◌+◌, ◌<◌, ◌≤◌, List, refl, sym, ap, ◌∙◌, subst, arith, Some}
 use Rattle.std.proofs.lemmas.Bool.{cases_lt}
+use Rattle.std.proofs.lemmas.List.{get_or-take}
 use Rattle.block_words.specs.Blocks.{link_spot, log_spot, link_at}
 use Rattle.block_words.proofs.Parts.{found_block}
-use Rattle.block_words.proofs.Prefixes.{log_word, link_word, last}
+use Rattle.block_words.proofs.Prefixes.{no_more, log_word, link_word, last}
 use Rattle.machine_states.specs.map_history.specs.declared.op.Request.{Request}
 use Rattle.machine_states.specs.table_words.specs.declared.layout.Layout.{Layout}
 use Rattle.machine_states.specs.table_words.specs.declared.spot.Spot.{Spot}
@@ -53,6 +54,15 @@ module _ (m : Meaning) (l : Layout) (chain : ℕ → List ℕ) (a : AgreementSta
           (found_block (chain n) (length q.links) (slice_index (chain n) (length q.links)) low refl) in omega (arith, few))
       by (inr high) = subst (λ v. v ≤ block_count l) (sym (ap (λ c. cond c (slice_index (chain n) (length q.links) + 1) 0) (not_less_tested (length q.links) (length (chain n)) high)))
           (omega arith)
+
+  -- the blocks that it knows are the table's too
+  pub known_in_table : GuardsStand m l chain a e s → (i : ℕ) → i < length q.links → slice_index q.links i < block_count l
+  known_in_table stands i low =
+      let first = old.agreed r q at in
+      let few = no_more q.links (chain n) first in
+      let same : slice_index q.links i ≡ slice_index (chain n) i = ap (λ (xs : List ℕ). slice_index xs i) (sym first) ∙ get_or-take (length q.links) (chain n) i 0 low in
+      subst (λ b. b < block_count l) (sym same) (linked_in_table m l chain a e s stands n (slice_index (chain n) i) (r, (joined.tied r).run_sure q at)
+      (found_block (chain n) i (slice_index (chain n) i) (omega (arith, low, few)) refl))
 
 module _ (m : Meaning) (l : Layout) (rs : List Request) (chain : ℕ → List ℕ) (a : AgreementState) (e : EpochState) (s : Sight) (joined : IsJoinedToEpochs m l e s) (old : LogsStand chain a e s)
     (r : ℕ) (kind : EventKind) (x : Spot × Access) (asked : asks m l rs r kind (s.part r) ≡ Some x) (q : RunState) (at : (s.part r).run ≡ Some q) where

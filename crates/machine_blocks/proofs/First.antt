@@ -49,4 +49,5 @@ module _ (m : Meaning) (l : Layout) (rs : List Request) (w : World) (start : IsF
     agreed = λ r q at. absurd (no_run r q at);
     emptied = λ r b j q at held low. absurd (no_run r q at);
     begun = λ r q at none. absurd (no_run r q at);
+    most = λ r q at. absurd (no_run r q at);
   }

@@ -2,7 +2,8 @@
 use Rattle.std.specs.Prelude.{◌==◌, ◌^◌, cond, Bool, true, false, if◌then◌else◌}
 use Rattle.std.proofs.Common.{◌≡◌, ℕ, ◌≤◌, List, [], refl, sym, ap, ◌∙◌, subst, arith, ⊎_elim, Option, Some, None}
 use Rattle.std.proofs.lemmas.Bool.{cases_lt}
-use Rattle.block_words.specs.Blocks.{room}
+use Rattle.block_words.specs.Blocks.{room, log_in}
+use Rattle.block_words.proofs.Reading.{read_log}
 use Rattle.machine_states.specs.map_history.specs.declared.op.Request.{Request}
 use Rattle.machine_states.specs.table_words.specs.declared.layout.Layout.{Layout}
 use Rattle.machine_states.specs.table_words.specs.declared.spot.Spot.{Spot}
@@ -17,6 +18,7 @@ use Rattle.machine_states.specs.runner_parts.specs.declared.event.EventKind.{Eve
 use Rattle.machine_states.specs.runner_parts.specs.declared.event.EventKind.TheVariants as kinds
 use Rattle.machine_states.specs.runner_parts.specs.State.{RunState}
 use Rattle.machine_states.specs.runner_steps.specs.Asks.{asks, sizes_for}
+use Rattle.machine_states.specs.runner_steps.specs.Outside.{is_sure_of}
 use Rattle.machine_states.specs.epoch_core.specs.State.{EpochState}
 use Rattle.machine_states.specs.epoch_core.specs.Schedules as epoch_schedules
 use Rattle.agreement_core.specs.State.{AgreementState}
@@ -55,6 +57,12 @@ own_alone m l logs empty d k = ⊎_elim
   where
     first : (k : ℕ) → part_words ≤ k → room [] ≤ k
     first k high = omega (arith, high)
+
+-- where somebody is sure of a descriptor, its log is what is read off its words and those of its blocks
+pub log_read : (m : Meaning) (l : Layout) {a : AgreementState} {e : EpochState} {s : Sight} → LogsHold m l a e s → (r d : ℕ)
+    → is_sure_of (s.part r).guards d ≡ true → (k : ℕ) → log_in s.word d k ≡ (a.section d).log k
+log_read m l {a} {e} {s} logs r d sure k =
+    read_log (a.section d).log s.word d (logs.chain d) (logs.stands.logs r d sure) k (logs.guards.sound.few d)
 
 module _ (m : Meaning) (l : Layout) (rs : List Request) (chain : ℕ → List ℕ) (a : AgreementState) (e : EpochState) (s : Sight) (joined : IsJoinedToEpochs m l e s) (stands : LogsStand chain a e s)
     (r : ℕ) (x : Spot × Access) (empty : block_count l ≡ 0) (none : (d : ℕ) → chain d ≡ []) (found d : ℕ) where

@@ -11,7 +11,7 @@ use Rattle.machine_states.specs.epoch_core.specs.small_lemmas.proofs.Numbers.{se
 use Rattle.machine_states.specs.table_words.specs.declared.layout.Layout.{Layout}
 use Rattle.machine_states.specs.table_words.specs.declared.spot.Spot.{Spot}
 use Rattle.machine_states.specs.table_words.specs.declared.spot.Spot.TheVariants.{LogWord, LinkWord, BlockWord, BlockLink}
-use Rattle.machine_states.specs.table_words.specs.Places.{part_words}
+use Rattle.machine_states.specs.table_words.specs.Places.{part_words, block_words}
 use Rattle.machine_states.specs.table_words.specs.Seen.{put, upd}
 use Rattle.machine_states.specs.table_words.proofs.Seen.{put_elsewhere}
 use Rattle.machine_states.specs.structure_laws.specs.Meaning.{Meaning}
@@ -133,10 +133,11 @@ pub record Fine (chain : ℕ → List ℕ) (word : Spot → ℕ) (v : Seen) : Ty
   pub agreed : IsPrefix v.links (chain v.descriptor)
   pub emptied : (b j : ℕ) → v.block ≡ Some b → j < v.emptied → word (block_spot b j) ≡ 0
   pub begun : v.block ≡ None → v.emptied ≡ 0
+  pub most : v.emptied ≤ block_words
 
 -- a run that begins
 pub begins_fine : (chain : ℕ → List ℕ) (word : Spot → ℕ) (d : ℕ) → Fine chain word (record { descriptor = d; links = []; block = None; emptied = 0 })
-begins_fine chain word d = record { agreed = refl; emptied = λ b j held low. absurd (omega (arith, low)); begun = λ none. refl }
+begins_fine chain word d = record { agreed = refl; emptied = λ b j held low. absurd (omega (arith, low)); begun = λ none. refl; most = omega arith }
 
 pub fine_kept : (chain chain' : ℕ → List ℕ) (word word' : Spot → ℕ) (v : Seen) → chain' v.descriptor ≡ chain v.descriptor
     → ((b j : ℕ) → v.block ≡ Some b → word (block_spot b j) ≡ 0 → word' (block_spot b j) ≡ 0) → Fine chain word v → Fine chain' word' v
@@ -144,6 +145,7 @@ fine_kept chain chain' word word' v same words old = record {
   agreed = ap (take (length v.links)) same ∙ old.agreed;
   emptied = λ b j held low. words b j held (old.emptied b j held low);
   begun = old.begun;
+  most = old.most;
 }
 
 module _ (chain : ℕ → List ℕ) (a : AgreementState) (e : EpochState) (s : Sight) where
@@ -152,6 +154,7 @@ module _ (chain : ℕ → List ℕ) (a : AgreementState) (e : EpochState) (s : S
     agreed = old.agreed i run.0 run.1;
     emptied = λ b j held low. old.emptied i b j run.0 run.1 held low;
     begun = old.begun i run.0 run.1;
+    most = old.most i run.0 run.1;
   })
 
   pub stand : ((d k : ℕ) → e.log d k ≡ logs_of a d k) → ((d k : ℕ) → k < part_words → s.word (LogWord d k) ≡ logs_of a d k)
@@ -166,6 +169,7 @@ module _ (chain : ℕ → List ℕ) (a : AgreementState) (e : EpochState) (s : S
     agreed = λ r q at. (runs r (seen q) (ap seen_in at)).agreed;
     emptied = λ r b j q at held low. (runs r (seen q) (ap seen_in at)).emptied b j held low;
     begun = λ r q at none. (runs r (seen q) (ap seen_in at)).begun none;
+    most = λ r q at. (runs r (seen q) (ap seen_in at)).most;
   }
 
 module _ (m : Meaning) (l : Layout) (chain chain' : ℕ → List ℕ) (a a' : AgreementState) (e e' : EpochState) (s s' : Sight) (stands : GuardsStand m l chain a e s) (old : LogsStand chain a e s) where

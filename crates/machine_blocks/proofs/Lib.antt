@@ -10,3 +10,4 @@ pub mod AllKinds
 pub mod First
 pub mod Finding
 pub mod Holding
+pub mod Writes

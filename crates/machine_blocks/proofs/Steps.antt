@@ -257,7 +257,7 @@ module _ (m : Meaning) (l : Layout) (chain chain' : ℕ → List ℕ) (a a' : Ag
       behind = record { descriptor = n; links = q.links ++ value_of (written_once found (b + 1) - 1) ∷ []; block = None; emptied = 0 }
 
       behind_fine : (word : Spot → ℕ) → IsPrefix behind.links (chain' n) → Fine chain' word behind
-      behind_fine word agreed = record { agreed = agreed; emptied = λ c j held' low. absurd (omega (arith, low)); begun = λ none. refl }
+      behind_fine word agreed = record { agreed = agreed; emptied = λ c j held' low. absurd (omega (arith, low)); begun = λ none. refl; most = omega arith }
 
       only : ((v : Seen) → seen_in p'.run ≡ Some v → v ≡ behind) → Fine chain' f behind → (v : Seen) → seen_in p'.run ≡ Some v → Fine chain' f v
       only run_is good v at' = subst (Fine chain' f) (sym (run_is v at')) good
@@ -310,6 +310,7 @@ module _ (m : Meaning) (l : Layout) (chain chain' : ℕ → List ℕ) (a a' : Ag
                 ∙ (apart_kept s.word n (b + 1) (chain n) (link_spot n (chain n) (length (chain n))) (block_spot c j) (link_here n (chain n) (length (chain n)) (omega arith))
                 (block_apart n c j (chain n) (hand_off i c n v at' held' run_held)) ∙ good.emptied c j held' low);
             begun = good.begun;
+            most = good.most;
           }
             where
               longer : (v : Seen) (i : ℕ) → IsPrefix v.links (chain v.descriptor) → IsPrefix v.links (chain' v.descriptor)
@@ -368,6 +369,7 @@ module _ (m : Meaning) (l : Layout) (chain chain' : ℕ → List ℕ) (a a' : Ag
       agreed = first;
       emptied = λ b j held' low. ap (λ i. f (block_spot i j)) (sym (one b held')) ∙ word_is j (subst (λ i. j < i) more low);
       begun = λ none. absurd (let y = none in cc);
+      most = let up = more in omega (arith, up, less);
     }
       where
         one : (b : ℕ) → Some c ≡ Some b → c ≡ b

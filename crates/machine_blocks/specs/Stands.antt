@@ -2,7 +2,7 @@
 use Rattle.std.specs.Prelude.{ℕ, ◌<◌, ◌≤◌, ◌≡◌, true, List, [], Some, None}
 use Rattle.block_words.specs.Blocks.{room, HasBlocks, IsPrefix}
 use Rattle.machine_states.specs.table_words.specs.declared.spot.Spot.TheVariants.{LogWord}
-use Rattle.machine_states.specs.table_words.specs.Places.{part_words, block_count}
+use Rattle.machine_states.specs.table_words.specs.Places.{part_words, block_words, block_count}
 use Rattle.machine_states.specs.runner_parts.specs.State.{RunState}
 use Rattle.machine_states.specs.runner_steps.specs.Outside.{block_spot, is_sure_of}
 use Rattle.agreement_core.specs.State.{AgreementState}
@@ -29,6 +29,7 @@ pub record LogsStand (chain : ℕ → List ℕ) (a : AgreementState) (e : EpochS
   pub emptied : (r b j : ℕ) (q : RunState) → (s.part r).run ≡ Some q → q.block ≡ Some b → j < q.emptied
       → s.word (block_spot b j) ≡ 0
   pub begun : (r : ℕ) (q : RunState) → (s.part r).run ≡ Some q → q.block ≡ None → q.emptied ≡ 0
+  pub most : (r : ℕ) (q : RunState) → (s.part r).run ≡ Some q → q.emptied ≤ block_words
 
 -- guards and the logs stand, with the blocks that are linked
 pub record LogsHold (m : Meaning) (l : Layout) (a : AgreementState) (e : EpochState) (s : Sight) : Type 0 where

@@ -3,6 +3,7 @@ ghost use Rattle.std.specs.Prelude.{List};
 ghost use Rattle.machine_states.specs.map_history.specs.declared.op.Request.{Request};
 ghost use Rattle.machine_states.specs.table_words.specs.declared.layout.Layout.{Layout};
 ghost use Rattle.machine_blocks.specs.Keeps.{LogsStandFirst, StepsKeepLogs, CommitsFindTheLog, LinksLeadOn, LinkedAreFew};
+ghost use Rattle.machine_blocks.specs.Writes.{StepsWriteLogs};
 
 use machine_states::structure_laws::Structure;
 
@@ -15,6 +16,12 @@ pub fn logs_stand_at_first<S: Structure>(structure: &S)
 /// same logs, and where these stand: in the descriptors, and as long as somebody is sure of a descriptor in its blocks.
 pub fn steps_keep_logs<S: Structure>(structure: &S)
     ensures { (layout : Layout) (requests : List Request) → StepsKeepLogs (S.meaning structure.now) layout requests }
+{}
+
+/// A step leaves the log of each section whose descriptor isn't free with the stepping runner, but where a run of that
+/// section commits there: then the word that was there is agreed on, or else the run's proposal.
+pub fn steps_write_logs<S: Structure>(structure: &S)
+    ensures { (layout : Layout) (requests : List Request) → StepsWriteLogs (S.meaning structure.now) layout requests }
 {}
 
 /// A commit of a run finds the word that its section's log has at the place to which the run commits.

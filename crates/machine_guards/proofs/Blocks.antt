@@ -1,7 +1,7 @@
 -- Where a block is, and how often it stands with its runner, behind a change of the runner's lists.
 use Rattle.std.specs.Prelude.{◌==◌, ◌&&◌, ◌||◌, not, cond, map, Bool, true, false, if◌then◌else◌}
 use Rattle.std.specs.List.{filter}
-use Rattle.std.proofs.Common.{◌≡◌, ◌≢◌, ℕ, ◌+◌, ◌≤◌, List, [], ◌∷◌, ◌++◌, refl, sym, ap, ◌∙◌, arith, Option, Some, None}
+use Rattle.std.proofs.Common.{◌≡◌, ◌≢◌, ℕ, ◌+◌, ◌≤◌, List, [], ◌∷◌, ◌++◌, refl, sym, ap, ◌∙◌, subst, arith, Option, Some, None}
 use Rattle.std.proofs.lemmas.Bool.Decides.{nat_tests}
 use Rattle.machine_states.specs.epoch_core.specs.small_lemmas.proofs.Numbers.{tested_equal as same_number, self_tested, other_tested}
 use Rattle.machine_states.specs.runner_parts.specs.declared.entries.Waiting.{Waiting}
@@ -11,6 +11,7 @@ use Rattle.machine_states.specs.runner_parts.specs.Tests.{has}
 use Rattle.machine_states.specs.epoch_core.specs.Lists.{times}
 use Rattle.machine_states.specs.guard_core.specs.State as guards
 use Rattle.machine_states.specs.guard_core.specs.Moves.{retired, freed}
+use Rattle.machine_states.specs.guard_core.specs.Sweeps.{is_limbo_of}
 use Rattle.machine_guards.specs.State.{won_of, hand_of, under_in, waits_under, block_with}
 use Rattle.machine_guards.specs.Stands.{times_held, block_times}
 use Rattle.machine_guards.proofs.Lists.{append_has, times_has, times_filter, times_append}
@@ -83,7 +84,7 @@ blocks_under : (d : ℕ) (xs : List ℕ) → blocks_of (all_under d xs) ≡ xs
 blocks_under d [] = refl
 blocks_under d (x ∷ xs) = ap (λ ys. x ∷ ys) (blocks_under d xs)
 
-times_split : (test : Waiting → Bool) (xs : List Waiting) (b : ℕ) → times b (blocks_of (filter test xs)) + times b (blocks_of (filter (λ x. not (test x)) xs)) ≡ times b (blocks_of xs)
+pub times_split : (test : Waiting → Bool) (xs : List Waiting) (b : ℕ) → times b (blocks_of (filter test xs)) + times b (blocks_of (filter (λ x. not (test x)) xs)) ≡ times b (blocks_of xs)
 times_split test [] b = refl
 times_split test (x ∷ xs) b = by (test x) (times_split test xs b)
   where
@@ -99,6 +100,17 @@ times_split test (x ∷ xs) b = by (test x) (times_split test xs b)
         → times b (blocks_of (cond k (x ∷ (filter test xs)) (filter test xs))) + times b (blocks_of (cond (not k) (x ∷ (filter (λ y. not (test y)) xs)) (filter (λ y. not (test y)) xs))) ≡ cond (x.block == b) (1 + times b (blocks_of xs)) (times b (blocks_of xs))
     by true rest = first (x.block == b) (times b (blocks_of xs)) (times b (blocks_of (filter test xs))) (times b (blocks_of (filter (λ y. not (test y)) xs))) rest
     by false rest = second (x.block == b) (times b (blocks_of xs)) (times b (blocks_of (filter test xs))) (times b (blocks_of (filter (λ y. not (test y)) xs))) rest
+
+-- what stands in a limbo once lies there
+pub limbo_counts : (r : ℕ) (xs : List Waiting) (b : ℕ) → times b (blocks_of xs) ≤ 1
+    → times b (blocks_of xs) ≤ cond (is_limbo_of r (waits_under r (under_in xs b))) 1 0
+limbo_counts r [] b few = omega arith
+limbo_counts r (x ∷ xs) b few = by (x.block == b) (times b (blocks_of xs)) (limbo_counts r xs b) few
+  where
+    by : (k : Bool) (n : ℕ) → (n ≤ 1 → n ≤ cond (is_limbo_of r (waits_under r (under_in xs b))) 1 0) → cond k (1 + n) n ≤ 1
+        → cond k (1 + n) n ≤ cond (is_limbo_of r (waits_under r (cond k (Some x.descriptor) (under_in xs b)))) 1 0
+    by true n rest few = subst (λ t. 1 + n ≤ cond t 1 0) (sym (self_tested r)) few
+    by false n rest few = rest few
 
 -- what lies in limbo under a descriptor that passes the test is free, and else it stays
 module _ (r : ℕ) (test : ℕ → Bool) where

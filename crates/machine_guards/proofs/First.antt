@@ -60,7 +60,7 @@ module _ (m : Meaning) (l : Layout) where
       and_none : (n : ℕ) → n + 0 ≡ n
       and_none n = omega arith
 
-  own_blocks : (r b : ℕ) → block_times (first_part_of m l r) b ≡ cond (nat_lt b (block_count l) && block_owner l b == r) 1 0
+  pub own_blocks : (r b : ℕ) → block_times (first_part_of m l r) b ≡ cond (nat_lt b (block_count l) && block_owner l b == r) 1 0
   own_blocks r b = free_alone r b ∙ (ap (times b) (free_blocks r) ∙ by (nat_lt b (block_count l)) refl)
     where
       below : (i n : ℕ) → nat_lt i n ≡ true → i < n

@@ -1,24 +1,27 @@
 -- What a runner is sure of isn't free, and what a sweep does to its runner's lists.
-use Rattle.std.specs.Prelude.{◌==◌, ◌&&◌, ◌||◌, not, cond, Bool, true, false, nat_lt, if◌then◌else◌}
+use Rattle.std.specs.Prelude.{◌*◌, ◌==◌, ◌&&◌, ◌||◌, not, cond, map, Bool, true, false, nat_lt, if◌then◌else◌}
 use Rattle.std.specs.List.{filter}
 use Rattle.std.proofs.Common.{◌≡◌, ◌≢◌, ℕ, zero, suc, ◌+◌, ◌<◌, ◌≤◌, List, [], ◌∷◌, ◌++◌, length, refl, sym, ap, ◌∙◌, subst, arith, Option, Some, None}
 use Rattle.std.proofs.lemmas.Bool.Decides.{nat_tests}
 use Rattle.std.proofs.lemmas.Bool.{and_parts}
+use Rattle.std.proofs.lemmas.List.{length-map}
 use Rattle.machine_states.specs.map_history.specs.declared.op.Request.{Request}
 use Rattle.machine_states.specs.epoch_core.specs.small_lemmas.proofs.Bools.{negated}
-use Rattle.machine_states.specs.epoch_core.specs.small_lemmas.proofs.Numbers.{tested_equal as same_number}
+use Rattle.machine_states.specs.epoch_core.specs.small_lemmas.proofs.Numbers.{tested_equal as same_number, tested_less}
 use Rattle.machine_states.specs.table_words.specs.declared.layout.Layout.{Layout}
 use Rattle.machine_states.specs.table_words.specs.declared.spot.Spot.{Spot}
 use Rattle.machine_states.specs.table_words.specs.declared.spot.Spot.TheVariants.{Guard}
 use Rattle.machine_states.specs.table_words.specs.declared.access.Access.{Access}
-use Rattle.machine_states.specs.table_words.specs.Places.{descriptor_count}
+use Rattle.machine_states.specs.table_words.specs.Places.{descriptor_count, block_count}
 use Rattle.agreement_core.specs.State.{AgreementState}
 use Rattle.machine_states.specs.structure_laws.specs.Meaning.{Meaning}
 use Rattle.machine_states.specs.runner_parts.specs.declared.event.EventKind.TheVariants as kinds
-use Rattle.machine_states.specs.runner_parts.specs.Lists.{descriptors_swept}
-use Rattle.machine_states.specs.runner_parts.specs.State.{RunState, DescriptorsState, PartState}
+use Rattle.machine_states.specs.runner_parts.specs.declared.entries.Waiting.{Waiting}
+use Rattle.machine_states.specs.runner_parts.specs.Lists.{descriptors_swept, blocks_freed}
+use Rattle.machine_states.specs.runner_parts.specs.State.{RunState, DescriptorsState, BlocksState, PartState}
 use Rattle.machine_states.specs.runner_parts.specs.Tests.{has}
 use Rattle.machine_states.specs.runner_steps.specs.After.{after, after_by}
+use Rattle.machine_states.specs.runner_steps.specs.Blocks.{blocks_after}
 use Rattle.machine_states.specs.runner_steps.specs.Asks.{ask_by, sizes_for}
 use Rattle.machine_states.specs.runner_steps.specs.Guards.{is_last_guard}
 use Rattle.machine_states.specs.runner_steps.specs.Sections.{is_open_run}
@@ -29,7 +32,7 @@ use Rattle.machine_states.specs.epoch_core.specs.State.{EpochState, is_entered}
 use Rattle.machine_states.specs.epoch_core.specs.Events.{slot_of}
 use Rattle.machine_states.specs.epoch_core.specs.Lists.{times, in_free, in_any_limbo}
 use Rattle.machine_states.specs.guard_core.specs.State as guards
-use Rattle.machine_states.specs.guard_core.specs.State.{Counts, GuardState}
+use Rattle.machine_states.specs.guard_core.specs.State.{Counts, GuardState, most_linked}
 use Rattle.machine_states.specs.guard_core.specs.Events.{LoadLast, Enabled, with_next}
 use Rattle.machine_states.specs.guard_core.specs.Moves.{is_unnamed, swept}
 use Rattle.machine_states.specs.guard_core.specs.Sound.{named}
@@ -44,9 +47,10 @@ use Rattle.machine_states.proofs.Sights.{cond_none, unless_gone}
 use Rattle.machine_states.proofs.Updates.{upd_here}
 use Rattle.machine_agreement.specs.machine_epochs.specs.Joined.{IsJoinedToEpochs}
 use Rattle.machine_agreement.specs.machine_epochs.proofs.OutsideAsked as asked
-use Rattle.machine_guards.specs.State.{guard_counts, place_of, guards_of}
+use Rattle.machine_guards.specs.State.{guard_counts, place_of, won_of, block_owner, block_with, guards_of}
 use Rattle.machine_guards.specs.Stands.{GuardsStand}
 use Rattle.machine_guards.specs.Sweeps.{words_read, SweepIsExact}
+use Rattle.machine_guards.proofs.Blocks.{at as lists_at, times_split, limbo_counts, freed_block}
 use Rattle.machine_guards.proofs.Lists.{filter_has, append_has, times_has, has_times, times_filter}
 
 -- the two ways to say that a list has a number
@@ -240,12 +244,66 @@ module _ (m : Meaning) (l : Layout) (rs : List Request) (chain : ℕ → List �
       let kept = subst (λ (ws : List ℕ). count (λ d. is_limbo_of r (swept r ws (w.descriptor d))) (descriptor_count l) ≤ named ws) (sym read) leaves.few_descriptors in
       omega arith
 
+  -- the blocks behind it
+  blocks_are : (s'.part r).blocks ≡ blocks_freed (is_unnamed words) p.blocks
+  blocks_are = ap (λ (z : Sight). (z.part r).blocks) step.next
+      ∙ (ap (λ (z : PartState). z.blocks) (upd_here s.part r (after m l r (kinds.LoadGuard n) step.ask.0 step.ask.1 p (s.word (step.ask.0))))
+      ∙ (ap (λ (o : Option RunState). blocks_after m l (kinds.LoadGuard n) p o (s.word (step.ask.0))) none
+      ∙ ap (λ b. if b then blocks_freed (is_unnamed words) p.blocks else p.blocks) last))
+
+  -- those that stay in limbo
+  abbrev stay : List Waiting
+  stay = filter (λ (x : Waiting). not (is_unnamed words x.descriptor)) p.blocks.limbo
+
+  abbrev numbers : List Waiting → List ℕ
+  numbers xs = map (λ (x : Waiting). x.block) xs
+
+  fewer_stay : (b : ℕ) → times b (numbers stay) ≤ times b (numbers p.blocks.limbo)
+  fewer_stay b = let both = times_split (λ (x : Waiting). not (is_unnamed words x.descriptor)) p.blocks.limbo b in omega (arith, both)
+
+  stay_once : (b : ℕ) → times b (numbers stay) ≤ cond (is_limbo_of r (swept r words (w.block b))) 1 0
+  stay_once b = by (nat_lt b (block_count l) && block_owner l b == r) refl
+    where
+      by : (t : Bool) → (nat_lt b (block_count l) && block_owner l b == r) ≡ t → times b (numbers stay) ≤ cond (is_limbo_of r (swept r words (w.block b))) 1 0
+      by false is =
+          let all = old.blocks r b ∙ ap (λ k. cond k 1 0) is in
+          let fewer = fewer_stay b in
+          let nought : times b (numbers stay) ≡ 0 = omega (arith, all, fewer) in
+          subst (λ k. k ≤ cond (is_limbo_of r (swept r words (w.block b))) 1 0) (sym nought) (omega arith)
+      by true is =
+          let all = old.blocks r b ∙ ap (λ k. cond k 1 0) is in
+          let fewer = fewer_stay b in
+          let own = same_number (block_owner l b) r (and_parts (nat_lt b (block_count l)) _ is).1 in
+          let here : w.block b ≡ lists_at r [] p.blocks.limbo b = ap (λ j. block_with j (s.part j) b) own
+          ∙ ap (λ (o : Option RunState). lists_at r (won_of o) p.blocks.limbo b) none in
+          let goes = freed_block r (is_unnamed words) [] p.blocks.limbo b (omega (arith, all)) in
+          subst (λ (x : guards.Location). times b (numbers stay) ≤ cond (is_limbo_of r x) 1 0) (goes ∙ sym (ap (swept r words) here))
+          (limbo_counts r stay b (omega (arith, all, fewer)))
+
+  stay_below : (b : ℕ) → has (numbers stay) b ≡ true → b < block_count l
+  stay_below b is = by (nat_lt b (block_count l)) refl
+    where
+      by : (t : Bool) → nat_lt b (block_count l) ≡ t → b < block_count l
+      by true low = tested_less b (block_count l) low
+      by false high =
+          let some = times_has (numbers stay) b is in
+          let all = old.blocks r b ∙ ap (λ k. cond (k && block_owner l b == r) 1 0) high in
+          let fewer = fewer_stay b in absurd (omega (arith, some, all, fewer))
+
+  few_stay : length stay ≤ most_linked * named words
+  few_stay =
+      let listed = few_listed (numbers stay) (λ b. is_limbo_of r (swept r words (w.block b))) (block_count l) stay_once stay_below in
+      let kept = subst (λ (ws : List ℕ). count (λ b. is_limbo_of r (swept r ws (w.block b))) (block_count l) ≤ most_linked * named ws) (sym read) leaves.few_blocks in
+      let long = length-map stay (λ (x : Waiting). x.block) in omega (arith, listed, kept, long)
+
   pub sweep_exact : SweepIsExact l s s' r (s.word (step.ask.0))
   sweep_exact = record {
     limbo = λ d. ap (λ (ds : DescriptorsState). has ds.limbo d) lists ∙ filter_has (λ x. not (is_unnamed words x)) p.descriptors.limbo d;
     free = λ d. ap (λ (ds : DescriptorsState). has ds.free d) lists ∙ (append_has p.descriptors.free (filter (is_unnamed words) p.descriptors.limbo) d
         ∙ ap (λ b. has p.descriptors.free d || b) (filter_has (is_unnamed words) p.descriptors.limbo d));
     few = subst (λ (ds : DescriptorsState). length ds.limbo ≤ named words) (sym lists) few;
+    blocks = blocks_are;
+    few_blocks = subst (λ (b : BlocksState). length b.limbo ≤ most_linked * named words) (sym blocks_are) few_stay;
     words = subst (λ (ws : List ℕ). named ws ≤ l.runners) (sym read) leaves.words;
     words_of_workers = λ low empty. subst (λ (ws : List ℕ). named ws < l.runners) (sym read) (leaves.words_of_workers low empty);
   }

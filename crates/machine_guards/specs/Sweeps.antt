@@ -1,15 +1,17 @@
 -- Nothing that a runner is sure of is given out, and what a sweep does.
-use Rattle.std.specs.Prelude.{ℕ, ◌<◌, ◌≤◌, ◌≡◌, not, ◌&&◌, ◌||◌, true, false, List, [], ◌∷◌, ◌++◌, length, None}
+use Rattle.std.specs.Prelude.{ℕ, ◌*◌, ◌<◌, ◌≤◌, ◌≡◌, not, ◌&&◌, ◌||◌, true, false, List, [], ◌∷◌, ◌++◌, length, None}
 use Rattle.machine_states.specs.map_history.specs.declared.op.Request.{Request}
 use Rattle.machine_states.specs.table_words.specs.declared.layout.Layout.{Layout}
 use Rattle.agreement_core.specs.State.{AgreementState}
 use Rattle.machine_states.specs.structure_laws.specs.Meaning.{Meaning}
 use Rattle.machine_states.specs.runner_parts.specs.declared.event.EventKind.TheVariants as kinds
+use Rattle.machine_states.specs.runner_parts.specs.Lists.{blocks_freed}
 use Rattle.machine_states.specs.runner_parts.specs.Tests.{has}
 use Rattle.machine_states.specs.runner_steps.specs.Guards.{is_last_guard}
 use Rattle.machine_states.specs.runner_steps.specs.Outside.{is_sure_of}
 use Rattle.machine_states.specs.epoch_core.specs.State.{EpochState}
 use Rattle.machine_states.specs.epoch_core.specs.Lists.{times}
+use Rattle.machine_states.specs.guard_core.specs.State.{most_linked}
 use Rattle.machine_states.specs.guard_core.specs.Moves.{is_unnamed}
 use Rattle.machine_states.specs.guard_core.specs.Sound.{named}
 use Rattle.machine_states.specs.Sight.{Sight, Steps}
@@ -31,6 +33,10 @@ pub record SweepIsExact (l : Layout) (s s' : Sight) (r found : ℕ) : Type 0 whe
       || (has (s.part r).descriptors.limbo d && is_unnamed (words_read s r found) d))
   -- for each word that names something at most one stays
   pub few : length (s'.part r).descriptors.limbo ≤ named (words_read s r found)
+  -- of its blocks in limbo exactly those come to its free list that lie under a descriptor which no word names, and for
+  -- each word that names something at most eight stay
+  pub blocks : (s'.part r).blocks ≡ blocks_freed (is_unnamed (words_read s r found)) (s.part r).blocks
+  pub few_blocks : length (s'.part r).blocks.limbo ≤ most_linked * named (words_read s r found)
   -- its own word names nothing, nor does the keeper's where that is empty
   pub words : named (words_read s r found) ≤ l.runners
   pub words_of_workers : r < l.runners → (s.part (l.runners)).guards.named ≡ None

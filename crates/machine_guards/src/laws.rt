@@ -33,6 +33,8 @@ pub fn sure_descriptors_are_kept<S: Structure>(structure: &S)
 
 /// At the end of a runner's sweep nobody is sure of a retired descriptor of its own that no guard word names which it
 /// read. Exactly these come to its free list, and for each word that names something at most one stays in its limbo.
+/// So it is with its blocks, each under the descriptor of the section that it was linked in, of which at most eight
+/// stay for each such word.
 pub fn sweeps_free_exactly_what_no_guard_names<S: Structure>(structure: &S)
     ensures safe { (layout : Layout) (requests : List Request)
         → SweepsAreSafe (S.meaning structure.now) layout requests }

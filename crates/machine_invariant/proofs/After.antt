@@ -1,5 +1,5 @@
 -- Every state that the machine reaches is sound.
-use Rattle.std.proofs.Common.{List, refl}
+use Rattle.std.proofs.Common.{◌≡◌, List, refl}
 use Rattle.machine_states.specs.map_history.specs.declared.op.Request.{Request}
 use Rattle.machine_states.specs.table_words.specs.Limits.{IsWithinLimits}
 use Rattle.machine_states.specs.table_words.specs.declared.layout.Layout.{Layout}
@@ -46,6 +46,13 @@ pub reached_whole : (m : Meaning) → Laws m → (l : Layout) (requests : List R
     → AreAllowed requests → IsAfter m l requests events w → (g : Beside) × IsWhole m l g (sight m l requests w)
 reached_whole m laws l requests events w limits allowed after =
     let all = followed m laws l limits requests allowed events w after in (all.beside, all.whole)
+
+-- which were published for these requests
+pub reached_beside : (m : Meaning) → Laws m → (l : Layout) (requests : List Request) (events : List Event) (w : World) → IsWithinLimits l
+    → AreAllowed requests → IsAfter m l requests events w
+    → (g : Beside) × IsWhole m l g (sight m l requests w) × (g.publications.requests ≡ requests)
+reached_beside m laws l requests events w limits allowed after =
+    let all = followed m laws l limits requests allowed events w after in (all.beside, all.whole, all.requests)
 
 pub whole_after : (m : Meaning) → Laws m → (l : Layout) (requests : List Request) (events : List Event) (w : World)
     → WholeAfter m l requests events w

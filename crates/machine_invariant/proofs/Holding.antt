@@ -1,23 +1,24 @@
--- The table has no block yet, so each log stands in its descriptor.
-use Rattle.std.specs.Prelude.{◌^◌}
-use Rattle.std.proofs.Common.{◌≡◌, ℕ, ◌≤◌, arith}
-use Rattle.agreement_core.specs.State.{AgreementState}
-use Rattle.machine_states.specs.epoch_core.specs.State.{EpochState}
+-- The number of a block has 32 bits.
+use Rattle.std.specs.Prelude.{◌*◌, ◌^◌}
+use Rattle.std.proofs.Common.{ℕ, ◌<◌, ◌≤◌, arith}
 use Rattle.machine_states.specs.table_words.specs.declared.layout.Layout.{Layout}
-use Rattle.machine_states.specs.table_words.specs.declared.spot.Spot.TheVariants.{LogWord}
-use Rattle.machine_states.specs.table_words.specs.Places.{block_count}
-use Rattle.machine_states.specs.structure_laws.specs.Meaning.{Meaning}
-use Rattle.machine_states.specs.Sight.{Sight}
-use Rattle.machine_blocks.specs.Stands.{LogsHold}
-use Rattle.machine_blocks.proofs.Holding.{own_alone}
+use Rattle.machine_states.specs.table_words.specs.Limits.{IsWithinLimits}
+use Rattle.machine_states.specs.table_words.specs.Places.{worker_blocks, keeper_blocks, block_count}
 
--- this changes with the number of blocks, and whoever goes by it then reads the logs off the descriptors' blocks
-pub no_blocks : (l : Layout) → block_count l ≡ 0
-no_blocks l = omega arith
+few_products : (blocks runners : ℕ) → blocks ≤ 8200 → runners ≤ 16 → blocks * runners ≤ 8200 * 16
+few_products blocks runners a b = grind arith
 
--- the number of a block has 32 bits
-pub few_blocks : (l : Layout) → block_count l ≤ 2 ^ 32
-few_blocks l = omega arith
+-- a worker has at most eight blocks for each of its descriptors and eight more, and the keeper eight for each worker
+worker_few : (l : Layout) → IsWithinLimits l → worker_blocks l ≤ 8200
+worker_few l limits = let few = limits.few_sections in omega (arith, few)
 
-pub own_words : (m : Meaning) (l : Layout) {a : AgreementState} {e : EpochState} {s : Sight} → LogsHold m l a e s → (d k : ℕ) → s.word (LogWord d k) ≡ (a.section d).log k
-own_words m l logs d k = own_alone m l logs (no_blocks l) d k
+keeper_few : (l : Layout) → IsWithinLimits l → keeper_blocks l ≤ 128
+keeper_few l limits = let few = limits.few_runners in omega (arith, few)
+
+pub few_blocks : (l : Layout) → IsWithinLimits l → block_count l < 2 ^ 32
+few_blocks l limits =
+    let products = few_products (worker_blocks l) l.runners (worker_few l limits) limits.few_runners in
+    let keeper = keeper_few l limits in omega (arith, products, keeper)
+
+pub blocks_most : (l : Layout) → IsWithinLimits l → block_count l ≤ 2 ^ 32
+blocks_most l limits = let low = few_blocks l limits in omega (arith, low)

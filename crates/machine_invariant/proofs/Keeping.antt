@@ -16,13 +16,14 @@ use Rattle.machine_states.proofs.Reached.{first_reached, more_reached, reached_h
 use Rattle.machine_states.proofs.Sights.{happens_steps}
 use Rattle.machine_invariant.specs.After.{AreAllowed}
 use Rattle.machine_invariant.specs.Whole.{Beside, IsWhole}
-use Rattle.machine_invariant.proofs.After.{reached_whole}
+use Rattle.machine_invariant.proofs.After.{reached_beside}
 
 -- a step between two states that meet the whole invariant
 pub record IsStep (m : Meaning) (l : Layout) (rs : List Request) (s s' : Sight) (r : ℕ) (kind : EventKind) : Type 0 where
   pub step : Steps m l rs s s' r kind
   pub beside : Beside
   pub whole : IsWhole m l beside s
+  pub requests : beside.publications.requests ≡ rs
   pub beside' : Beside
   pub whole' : IsWhole m l beside' s'
 
@@ -30,8 +31,8 @@ module _ (m : Meaning) (laws : Laws m) (l : Layout) (limits : IsWithinLimits l) 
   complete : (w : World) → Reached m l rs w → states.IsWhole m l rs w
   complete w reached = let all = reached_all m l rs w reached in record { words = le_of_eq (sym all.words); parts = all.parts }
 
-  whole_at : (w : World) → Reached m l rs w → (g : Beside) × IsWhole m l g (sight m l rs w)
-  whole_at w reached = reached_whole m laws l rs reached.events w limits allowed reached.after
+  whole_at : (w : World) → Reached m l rs w → (g : Beside) × IsWhole m l g (sight m l rs w) × (g.publications.requests ≡ rs)
+  whole_at w reached = reached_beside m laws l rs reached.events w limits allowed reached.after
 
   module _ (P : Sight → Type 0) (first : (w : World) → IsFirst m l rs w → P (sight m l rs w))
       (each : (s s' : Sight) (r : ℕ) (kind : EventKind) → IsStep m l rs s s' r kind → P s → P s') where
@@ -51,6 +52,7 @@ module _ (m : Meaning) (laws : Laws m) (l : Layout) (limits : IsWithinLimits l) 
             step = (happens_steps m l rs w v e (complete w old.reached) goes).0;
             beside = a.0;
             whole = a.1;
+            requests = a.2;
             beside' = b.0;
             whole' = b.1;
           }) old.has;

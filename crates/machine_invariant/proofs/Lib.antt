@@ -9,8 +9,9 @@ pub mod Sections
 pub mod Unwon
 pub mod Lengths
 pub mod Holding
+pub mod Few
 pub mod LogWords
-mod Linked
+pub mod Linked
 pub mod States
 pub mod Along
 pub mod Runs
@@ -40,5 +41,6 @@ pub mod First
 pub mod Following
 pub mod AllKinds
 pub mod After
+pub mod LogSteps
 pub mod Rising
 pub mod Keeping

@@ -22,12 +22,12 @@ use Rattle.machine_blocks.proofs.Finding.{link_is, linked_few, link_opened}
 use Rattle.machine_invariant.specs.Whole.{Beside, IsWhole}
 use Rattle.machine_invariant.proofs.LogWords.{word_few}
 
--- a log of at most 64 words has no more blocks than may be linked
-part_few : (k : ℕ) → k < 64 → k / part_words ≤ most_linked
+-- a log of at most sixty words has no more blocks than may be linked; so it is with parts of seven words too
+part_few : (k : ℕ) → k < 60 → k / part_words ≤ most_linked
 part_few k low = omega (arith, low)
 
 -- a step that commits a word is none of a run's end
-commit_inner : (micro : Micro) (k : ℕ) → commits_to micro ≡ Some k → is_of_end micro ≡ false
+pub commit_inner : (micro : Micro) (k : ℕ) → commits_to micro ≡ Some k → is_of_end micro ≡ false
 commit_inner (Commit place log) k e = refl
 commit_inner (NestedCommit place log) k e = refl
 commit_inner (OutcomeCommit place log) k e = refl

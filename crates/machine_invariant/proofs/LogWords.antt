@@ -23,6 +23,8 @@ use Rattle.machine_blocks.specs.machine_guards.specs.machine_agreement.specs.mac
 use Rattle.machine_invariant.specs.Whole.{Beside, IsWhole}
 use Rattle.machine_invariant.specs.LogWords.{LogWordsSay}
 use Rattle.machine_blocks.proofs.Finding.{log_seen, link_in_table}
+use Rattle.machine_states.specs.body_terms.specs.Shape.{IsShaped}
+use Rattle.machine_invariant.proofs.Few.{body_few}
 use Rattle.machine_invariant.proofs.Trails.{run_is, run_used}
 
 -- a commit goes to the log word whose number is how many words the steps below it commit
@@ -94,8 +96,8 @@ module _ (m : Meaning) (l : Layout) (g : Beside) (s : Sight) (whole : IsWhole m 
         (micro_at (line_of m q) q.at) (is.code q.at ∙ ap (λ (t : Thunk). micro_at (line (m.body t)) q.at) thunk) here
         ∙ (below ∙ sym agreed)
 
-  -- each commit of its line goes to one of the first 64
-  pub word_few : (r : ℕ) (q : RunState) → (s.part r).run ≡ Some q → length q.opened ≡ 13 → (i k : ℕ) → commits_to (micro_at (line_of m q) i) ≡ Some k → k < 64
+  -- each commit of its line goes to one of the first sixty
+  pub word_few : (r : ℕ) (q : RunState) → (s.part r).run ≡ Some q → length q.opened ≡ 13 → (i k : ℕ) → commits_to (micro_at (line_of m q) i) ≡ Some k → k < 60
   word_few r q at loaded i k here =
       let is = whole.sections.thunks q.descriptor (used r q at) in
       let counted = (whole.sections.sound.sections q.descriptor (used r q at)).published.line.counted in
@@ -103,14 +105,17 @@ module _ (m : Meaning) (l : Layout) (g : Beside) (s : Sight) (whole : IsWhole m 
       is.code i ∙ ap (λ (t : Thunk). micro_at (line (m.body t)) i) (thunk r q at loaded) in
       let same = log_of_commit ((g.agreement.section q.descriptor).code) ((g.agreement.section q.descriptor).slot) counted i k (micro_at (line_of m q) i) code here in
       let more = counted.slot_commit i (ap is_commit code ∙ is_commit_of (micro_at (line_of m q) i) k here) in
-      let most = counted.slot_most (suc i) in omega (arith, same, more, most)
+      let shaped : IsShaped (m.body (thunk_in s.word q.descriptor)) = subst (λ (t : Thunk). IsShaped (m.body t)) (whole.tied.thunk q.descriptor (used r q at))
+      ((whole.kept.shaped q.descriptor (used r q at)).shape) in
+      let slot = is.slot (suc i) in
+      let most = body_few (m.body (thunk_in s.word q.descriptor)) shaped (suc i) in omega (arith, same, more, slot, most)
 
   -- a state that meets the whole invariant
   pub log_words_say : LogWordsSay m l s
   log_words_say = record {
     made = λ r i k q at loaded here near. allowed r q at loaded k _ (make_role (m.body (thunk_of q.opened)) i k here) near;
     retired = λ r i slot k q at loaded here near. allowed r q at loaded k _ (retires r q at loaded i slot k here) near;
-    few = λ r i k q at loaded here. word_few r q at loaded i k here;
+    few = λ r i k q at loaded here. (let low = word_few r q at loaded i k here in omega (arith, low));
     linked = λ r q at. link_in_table m l whole.logs.chain g.agreement g.epochs s whole.slots whole.logs.stands r q at whole.logs.guards;
     agreed = λ r q at loaded. agreed r q at loaded;
     next = λ r k q at loaded here. next r q at loaded k here;

@@ -25,7 +25,7 @@ use Rattle.machine_blocks.specs.machine_guards.specs.machine_agreement.specs.mac
 use Rattle.machine_blocks.specs.machine_guards.specs.machine_agreement.specs.Joined as sections
 use Rattle.machine_blocks.specs.machine_guards.specs.machine_agreement.specs.Chunks as chunks
 use Rattle.machine_blocks.specs.machine_guards.specs.machine_agreement.proofs.AllKinds as sections_kinds
-use Rattle.machine_invariant.proofs.Holding.{few_blocks}
+use Rattle.machine_invariant.proofs.Holding.{blocks_most}
 use Rattle.machine_invariant.specs.Whole.{Beside, states_of, IsWhole}
 use Rattle.machine_invariant.proofs.Jointly.{IsWholeAfter, is_reading, HoldsNothing, Goes, GoesByPublishing, GoesByReading}
 use Rattle.machine_invariant.proofs.SuppliesSections.{sections_supplied}
@@ -201,6 +201,6 @@ module _ (m : Meaning) (laws : Laws m) (l : Layout) (limits : IsWithinLimits l) 
         in_slots = e.1;
         enabled_slots = e.2.enabled;
         joined_slots = e.2.joined;
-        logs = logs_hold m l rs g.agreement after g.epochs slots_after s s' r kind whole.sections whole.slots (few_blocks l) whole.logs step
+        logs = logs_hold m l rs g.agreement after g.epochs slots_after s s' r kind whole.sections whole.slots (blocks_most l limits) whole.logs step
             (guards_supplied m laws l limits rs few allowed g s whole r kind step.ask step.asked) others;
       }

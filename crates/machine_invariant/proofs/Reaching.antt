@@ -99,6 +99,7 @@ module _ (m : Meaning) (laws : Laws m) (l : Layout) (limits : IsWithinLimits l) 
           agreed = whole.logs.stands.agreed;
           emptied = whole.logs.stands.emptied;
           begun = whole.logs.stands.begun;
+          most = whole.logs.stands.most;
         };
         beyond = whole.logs.beyond;
         none = whole.logs.none;

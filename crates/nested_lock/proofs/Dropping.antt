@@ -37,7 +37,7 @@ both a b c d e h = grind (arith, nat_tests, h)
 
 module _ {T : Type 0} (m : Meaning) (laws : Laws m) (t : TableState T) (limits : IsWithinLimits t.layout) (allowed : AreAllowed t.requests) (r : RunnerState T) (own : IsOf t r) (place held : ℕ) (q : RunState) (may : MayDrop m r place held q) where
   few : q.descriptor + 1 < 2 ^ 32
-  few = let a = both q.descriptor (descriptor_count r.layout) _ _ _ (if_some _ _ _ (asked_there m laws t limits allowed r own q may.running (Release place may.word) may.next refl)).0 in
+  few = let a = both q.descriptor (descriptor_count r.layout) _ _ _ (if_some _ _ _ (asked_there m laws t limits allowed r own q may.running (Release place may.word) may.next refl refl)).0 in
       let b = few_descriptors t.layout limits in let c = ap descriptor_count own.layout in omega (arith, a, b, c)
 
   pub some_version : 1 ≤ version_of held
@@ -50,7 +50,7 @@ module _ {T : Type 0} (m : Meaning) (laws : Laws m) (t : TableState T) (limits :
   held_is = ap (λ (o : Option RunState). held_by_run o may.word) may.running.inside.running ∙ sym may.holds
 
   pub may_drop : (word : ℕ) → word ≡ pack 0 (version_of held - 1) → met_by m r kinds.Release ≡ Some (Cell place, Exchanges (held_by_run r.part.run word) (next_word (held_by_run r.part.run word) 0))
-  may_drop word is = may_make m laws t limits allowed r own q may.running (Release place may.word) may.next refl
+  may_drop word is = may_make m laws t limits allowed r own q may.running (Release place may.word) may.next refl refl
       ∙ (ap (λ n. Some (Cell place, Exchanges n (next_word n 0))) (sym may.holds ∙ sym held_is)
       ∙ ap (λ n. Some (Cell place, Exchanges (held_by_run r.part.run n) (next_word (held_by_run r.part.run n) 0))) (sym (is ∙ free_is)))
 
@@ -70,11 +70,11 @@ module _ {T : Type 0} (m : Meaning) (laws : Laws m) (t : TableState T) (limits :
   pub then_dropped : (r' : RunnerState T) → IsMade m kinds.Release r r' → HasDropped m place held r r' q
   then_dropped r' made =
       let met = some_same made.event.met (Cell place, Exchanges held (next_word held 0)) (sym made.event.asked
-      ∙ (may_make m laws t limits allowed r own q may.running (Release place may.word) may.next refl ∙ ap (λ n. Some (Cell place, Exchanges n (next_word n 0))) (sym may.holds))) in
+      ∙ (may_make m laws t limits allowed r own q may.running (Release place may.word) may.next refl refl ∙ ap (λ n. Some (Cell place, Exchanges n (next_word n 0))) (sym may.holds))) in
       record {
         word = may.word;
         found = made.found;
-        step = then_made m laws t limits allowed r own q may.running (Release place may.word) may.next refl made.found r' made.event;
+        step = then_made m laws t limits allowed r own q may.running (Release place may.word) may.next refl refl made.found r' made.event;
         stands = record {
           world = made.event.shown.world;
           reached = made.event.shown.reached;

@@ -12,6 +12,7 @@ use Rattle.machine_states.specs.runner_steps.specs.Sections.{thunk_of}
 use Rattle.machine_states.specs.runner_steps.specs.AfterInRun.{goes_on, agrees}
 use Rattle.commit_log.specs.version_words.specs.RunnerState.{RunnerState}
 use Rattle.commit_log.specs.Runs.{IsRunning, Stepped}
+use Rattle.commit_log.specs.Links.{HasRoom, HasLinked}
 use Rattle.commit_log.specs.Committed.{HasCommitted}
 use Rattle.nested_lock.specs.declared.takes.TakeEnd.{TakeEnd}
 use Rattle.nested_lock.specs.Answers.{first_outcome, second_outcome, outcome_at}
@@ -24,15 +25,17 @@ pub record IsInTake (m : Meaning) (place expected past : ℕ) (q : RunState) : T
   pub at : q.at ≡ begins (m.body (thunk_of q.opened)) step + past
 
 module _ {T : Type 0} (m : Meaning) where
-  -- the next step of this run takes this lock, with this word
+  -- the next step of this run takes this lock, with this word, and there are blocks for both words on which it agrees
   pub record MayTake (r : RunnerState T) (place expected : ℕ) (q : RunState) : Type 0 where
     pub running : IsRunning m r q
     pub next : IsInTake m place expected 0 q
+    pub room : HasRoom 2 r.part q
 
-  -- the run went on behind the first agreed word
+  -- the run went on behind the first agreed word, and there is a block for the second one
   pub record MayHold (r : RunnerState T) (place expected : ℕ) (q : RunState) : Type 0 where
     pub running : IsRunning m r q
     pub next : IsInTake m place expected 3 q
+    pub room : HasRoom 1 r.part q
 
   -- one exchange was made from the expected word to the one that names the section, and what the lock held then was
   -- agreed on: this word. By it the answer is given
@@ -46,14 +49,15 @@ module _ {T : Type 0} (m : Meaning) where
     pub looking : RunnerState T
     pub hold : Stepped m q (NestedHold place expected) held old holding
     pub load : Stepped m (goes_on m old.layout q q.word) (OutcomeLoad place log) loaded holding looking
-    pub commit : Stepped m (goes_on m old.layout (goes_on m old.layout q q.word) loaded) (OutcomeCommit place log) found
-        looking new
+    pub between : RunState
+    pub linked : RunnerState T
+    pub links : HasLinked m looking linked (goes_on m old.layout (goes_on m old.layout q q.word) loaded) between
+    pub commit : Stepped m between (OutcomeCommit place log) found linked new
     pub agreed : read ≡ written_once found loaded
     pub told : second_outcome old.layout.version_max q.descriptor place expected read ≡ outcome_at place answer
     -- where the lock was got, the section holds it until it is done
     pub got : is_err answer ≡ false → IsHeld m place expected q.descriptor new
-    pub goes_on : IsRunning m new (agrees m old.layout (goes_on m old.layout (goes_on m old.layout q q.word) loaded)
-        read)
+    pub goes_on : IsRunning m new (agrees m old.layout between read)
 
   -- the lock's word was loaded and agreed on
   pub record HasRead (place read : ℕ) (old new : RunnerState T) (q q' : RunState) : Type 0 where
@@ -62,8 +66,11 @@ module _ {T : Type 0} (m : Meaning) where
     pub first : Bool
     pub middle : RunnerState T
     pub load : Stepped m q (NestedLoad place log) loaded old middle
-    pub commit : HasCommitted m read first middle new (goes_on m old.layout q loaded)
-    pub after : q' ≡ agrees m old.layout (goes_on m old.layout q loaded) read
+    pub between : RunState
+    pub linked : RunnerState T
+    pub links : HasLinked m middle linked (goes_on m old.layout q loaded) between
+    pub commit : HasCommitted m read first linked new between
+    pub after : q' ≡ agrees m old.layout between read
     pub goes_on : IsRunning m new q'
 
   -- by the first agreed word the Take was refused

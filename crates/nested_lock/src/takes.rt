@@ -1,15 +1,15 @@
 //! The Take of a further lock.
-ghost use Rattle.std.specs.Prelude.{◌≡◌, ℕ, IfSome, IfNone, Some, true};
+ghost use Rattle.std.specs.Prelude.{◌≡◌, ℕ, ◌+◌, IfSome, IfNone, Some};
 ghost use Rattle.machine_states.specs.runner_parts.specs.State.{RunState};
 ghost use Rattle.commit_log.specs.version_words.specs.TableState.{IsOf};
 ghost use Rattle.commit_log.specs.Runs.{IsRunning};
-ghost use Rattle.commit_log.specs.Asked.{IsAsked};
 ghost use Rattle.commit_log.specs.Halted.{IsHalted, IsThrough};
+ghost use Rattle.commit_log.specs.Links.{links_cost};
 ghost use Rattle.nested_lock.specs.Taken.{MayTake, MayHold, HasTaken, HasHeld, Takes};
 
 use crate::answers::{first_answer, second_answer};
 use commit_log::version_words::{FlockTable, Runner};
-use commit_log::{Unasked, commit, passes};
+use commit_log::{Unasked, commit, link_if_due, passes};
 use machine_states::body_terms::{Place, Refused, StepKind, Steps, Word};
 use machine_states::structure_laws::Structure;
 use runner_gate::Gate;
@@ -33,7 +33,8 @@ pub struct TakeEnd {
 /// Busy, Spent or Stale by that word, in this order. Each refusal carries the agreed word.
 ///
 /// The runner has to be in a run whose next step takes this lock with this word. Two steps are made for a refusal by
-/// the first word, else five. No memory is taken (Ben-David, Blelloch, Wei, 2022).
+/// the first word, else five, and those of a link before each word where one is due. No memory is taken (Ben-David,
+/// Blelloch, Wei, 2022).
 pub fn take<S: Structure>(
     table: &FlockTable<S>,
     runner: Runner<S>,
@@ -75,13 +76,19 @@ pub fn take_gated<S: Structure, G: Gate, L>(
     ensures own { IsOf table.now result.0 }
     ensures taken { IfSome result.1 (λ end. (q : RunState) → IsRunning (S.meaning table.now.structure) runner q
         → HasTaken (S.meaning table.now.structure) place expected end runner result.0 q) }
-    ensures asked { IfSome result.1 (λ end. IsThrough (S.meaning table.now.structure) 5 runner result.0
+    ensures through { IfSome result.1 (λ end. (q : RunState) → IsRunning (S.meaning table.now.structure) runner q
+        → IsThrough (S.meaning table.now.structure) (5 + links_cost 2 q) runner result.0
         (G.halts gate.old) (G.halts gate.new) (G.asks gate.old) (G.asks gate.new) steps.old.count steps.new.count) }
-    ensures halted { IfNone result.1 (IsHalted (S.meaning table.now.structure) 5 runner result.0
+    ensures halted { IfNone result.1 ((q : RunState) → IsRunning (S.meaning table.now.structure) runner q
+        → IsHalted (S.meaning table.now.structure) (5 + links_cost 2 q) runner result.0
         (G.halts gate.old) (G.halts gate.new) (G.asks gate.old) (G.asks gate.new) steps.old.count steps.new.count) }
 {
     let (runner, word) = table.nested_load(runner, place);
     if !passes(gate, steps, StepKind::NestedLoad) {
+        return (runner, None);
+    }
+    let (runner, linked) = link_if_due(table, runner, gate, steps);
+    if !linked {
         return (runner, None);
     }
     let (runner, agreed, _) = commit(table, runner, word.bits());
@@ -125,9 +132,11 @@ fn hold_gated<S: Structure, G: Gate, L>(
     ensures held { IfSome result.1 (λ end. (q : RunState) → IsRunning (S.meaning table.now.structure) runner q
         → (read : ℕ) × (end.second ≡ Some read)
         × HasHeld (S.meaning table.now.structure) place expected read end.answer runner result.0 q) }
-    ensures asked { IfSome result.1 (λ end. IsAsked 3 true
+    ensures through { IfSome result.1 (λ end. (q : RunState) → IsRunning (S.meaning table.now.structure) runner q
+        → IsThrough (S.meaning table.now.structure) (3 + links_cost 1 q) runner result.0
         (G.halts gate.old) (G.halts gate.new) (G.asks gate.old) (G.asks gate.new) steps.old.count steps.new.count) }
-    ensures halted { IfNone result.1 (IsHalted (S.meaning table.now.structure) 3 runner result.0
+    ensures halted { IfNone result.1 ((q : RunState) → IsRunning (S.meaning table.now.structure) runner q
+        → IsHalted (S.meaning table.now.structure) (3 + links_cost 1 q) runner result.0
         (G.halts gate.old) (G.halts gate.new) (G.asks gate.old) (G.asks gate.new) steps.old.count steps.new.count) }
 {
     let runner = table.nested_hold(runner, place, expected);
@@ -136,6 +145,10 @@ fn hold_gated<S: Structure, G: Gate, L>(
     }
     let (runner, word) = table.outcome_load(runner, place);
     if !passes(gate, steps, StepKind::OutcomeLoad) {
+        return (runner, None);
+    }
+    let (runner, linked) = link_if_due(table, runner, gate, steps);
+    if !linked {
         return (runner, None);
     }
     let (runner, agreed) = table.outcome_commit(runner, word);

@@ -1,9 +1,9 @@
 -- In every reached state the next step of a run is enabled.
-use Rattle.std.specs.Prelude.{◌⊎◌, ◌==◌, ◌&&◌, ◌*◌, not, nat_lt, is_some, slice_index, Bool, true, false, if◌then◌else◌}
+use Rattle.std.specs.Prelude.{◌⊎◌, ◌==◌, ◌&&◌, ◌*◌, ◌/◌, ◌%◌, ◌-◌, cond, not, nat_lt, nat_le, is_some, slice_index, Bool, true, false, if◌then◌else◌}
 use Rattle.std.proofs.Common.{◌≡◌, ◌≢◌, ℕ, zero, suc, ◌+◌, ◌<◌, ◌≤◌, List, length, inl, inr, ⊎_elim, sym, refl, ap, ◌∙◌, subst, arith, Option, Some, None}
 use Rattle.std.proofs.lemmas.Bool.Decides.{nat_tests}
 use Rattle.std.proofs.lemmas.Option.{none-some}
-use Rattle.machine_states.specs.epoch_core.specs.small_lemmas.proofs.Numbers.{less_tested as below_test, self_tested as same_test}
+use Rattle.machine_states.specs.epoch_core.specs.small_lemmas.proofs.Numbers.{less_tested as below_test, self_tested as same_test, tested_less, tested_not_less, tested_other}
 use Rattle.machine_states.specs.map_history.specs.declared.op.Request.{Request}
 use Rattle.machine_states.specs.body_terms.specs.declared.micro.Micro.{Micro}
 use Rattle.machine_states.specs.body_terms.specs.declared.micro.Micro.TheVariants as micros
@@ -21,22 +21,22 @@ use Rattle.machine_states.specs.table_words.specs.declared.sizes.Sizes.{Sizes}
 use Rattle.machine_states.specs.table_words.specs.declared.spot.Spot.{Spot}
 use Rattle.machine_states.specs.table_words.specs.declared.spot.Spot.TheVariants as spots
 use Rattle.machine_states.specs.table_words.specs.declared.access.Access.{Access}
-use Rattle.machine_states.specs.table_words.specs.declared.access.Access.TheVariants.{Loads, Exchanges}
+use Rattle.machine_states.specs.table_words.specs.declared.access.Access.TheVariants.{Loads, Stores, Exchanges}
 use Rattle.machine_states.specs.table_words.specs.Limits.{IsWithinLimits}
-use Rattle.machine_states.specs.table_words.specs.Places.{part_words, fits, slot_count, descriptor_count}
+use Rattle.machine_states.specs.table_words.specs.Places.{part_words, block_words, fits, slot_count, descriptor_count, block_count}
 use Rattle.machine_states.specs.structure_laws.specs.Meaning.{Meaning}
 use Rattle.machine_states.specs.structure_laws.specs.Laws.{Laws}
 use Rattle.machine_states.specs.runner_parts.specs.declared.event.EventKind.{EventKind}
 use Rattle.machine_states.specs.runner_parts.specs.declared.event.EventKind.TheVariants as kinds
 use Rattle.machine_states.specs.runner_parts.specs.State.{RunState, PartState}
 use Rattle.machine_states.specs.runner_parts.specs.Tests.{has}
-use Rattle.machine_states.specs.runner_steps.specs.Sections.{thunk_of, is_open_run, line_of, next_of, commits_to}
+use Rattle.machine_states.specs.runner_steps.specs.Sections.{thunk_of, is_open_run, line_of, next_of, commits_to, is_beyond, needs_link}
 use Rattle.machine_states.specs.runner_steps.specs.InRun.{can_hold, make_slot, is_slot, last_clock}
-use Rattle.machine_states.specs.runner_steps.specs.InRun.{commit_to, make_commit_to}
-use Rattle.machine_states.specs.runner_parts.specs.block_words.specs.Blocks.{log_spot}
+use Rattle.machine_states.specs.runner_steps.specs.InRun.{commit_to, make_commit_to, block_empty_ask, fill_store_ask}
+use Rattle.machine_states.specs.runner_parts.specs.block_words.specs.Blocks.{part_spot, link_spot, log_spot}
 use Rattle.machine_states.specs.runner_steps.specs.Asks.{line_ask, inside_ask, ask_by}
 use Rattle.machine_states.specs.runner_steps.specs.AfterInRun.{place_of}
-use Rattle.machine_states.specs.runner_steps.specs.Outside.{Ask, when}
+use Rattle.machine_states.specs.runner_steps.specs.Outside.{Ask, when, block_spot, blocks_from}
 use Rattle.machine_states.specs.runner_steps.specs.Asks.{opening_ask, fitting, sizes_for}
 use Rattle.agreement_core.specs.State.{section_of}
 use Rattle.agreement_core.specs.Checks.{passes}
@@ -51,9 +51,16 @@ use Rattle.machine_invariant.specs.machine_blocks.specs.machine_guards.specs.mac
 use Rattle.machine_invariant.specs.After.{AreAllowed}
 use Rattle.machine_invariant.specs.Whole.{Beside, made_in, IsWhole}
 use Rattle.machine_invariant.proofs.After.{reached_whole}
-use Rattle.next_steps.specs.Steps.{slot_in, kind_at, ask_at, opening_kind, opened_next, has_slot}
+use Rattle.next_steps.specs.Steps.{slot_in, kind_at, ask_at, next_block, link_kind, link_ask, opening_kind, opened_next, has_slot}
 use Rattle.next_steps.specs.Rooms.{ClockIsSmall, cell_count, ThunkFits, ThunksFit, filling, RoomsStand}
 use Rattle.next_steps.specs.Enabled.{Meets, IsInTable, NextIsEnabled}
+use Rattle.machine_states.specs.epoch_core.specs.Lists.{times}
+use Rattle.machine_invariant.specs.machine_blocks.specs.machine_guards.specs.State.{hand_of}
+use Rattle.machine_invariant.specs.machine_blocks.specs.machine_guards.specs.Stands.{times_held}
+use Rattle.machine_invariant.specs.machine_blocks.specs.machine_guards.proofs.Lists.{times_has}
+use Rattle.machine_invariant.specs.machine_blocks.proofs.Apart.{in_table}
+use Rattle.machine_invariant.specs.machine_blocks.proofs.Finding.{known_in_table}
+use Rattle.machine_invariant.specs.machine_blocks.proofs.Steps.{in_hand}
 use Rattle.next_steps.proofs.Tests.{last_listed}
 use Rattle.next_steps.proofs.Runs.{section, run, here, used, few_descriptors, section_sound, run_sound, code}
 use Rattle.next_steps.proofs.Clock.{stamped_few, clock_word, reached_small}
@@ -65,7 +72,7 @@ use Rattle.next_steps.proofs.Standing.{IsOwn, own_node}
 use Rattle.next_steps.proofs.Filling.{low_cell, fill_log}
 use Rattle.next_steps.proofs.RoomsKept.{made_hand}
 use Rattle.next_steps.proofs.RoomsReached.{reached_rooms}
-use Rattle.next_steps.proofs.Lines.{never_beyond, in_first_part, next_no_check, shape, ordered, run_open, log_low}
+use Rattle.next_steps.proofs.Lines.{next_no_check, shape, ordered, run_open}
 use Rattle.machine_invariant.proofs.Basics.{both_hold}
 
 -- a cell of a slot of the table is one of the table's
@@ -149,6 +156,10 @@ module _ (m : Meaning) (laws : Laws m) (l : Layout) (limits : IsWithinLimits l) 
     fits_here = subst (ThunkFits m l rs) (opened_thunk m l g.agreement s whole.sections r q is all)
         (known.thunks q.descriptor descriptor (unfree_here m laws l limits g s whole q.descriptor (used m l g s whole r q is)))
 
+    -- the blocks that the run knows are the table's
+    known_block : (i : ℕ) → i < length q.links → slice_index q.links i < block_count l
+    known_block i low = known_in_table m l whole.logs.chain g.agreement g.epochs s whole.slots whole.logs.stands r q is whole.logs.guards i low
+
     -- a step that is asked for, on a word of the table
     record Goes (kind : EventKind) (micro : Micro) : Type 0 where
       asked : line_ask m l kind p.nodes.free p.blocks.free q micro ≡ Some (ask_at m p q micro)
@@ -163,17 +174,20 @@ module _ (m : Meaning) (laws : Laws m) (l : Layout) (limits : IsWithinLimits l) 
       cell_fit inner = below_test (place_of micro) (cell_count m l)
           (subst (λ (x : Micro). place_of x < cell_count m l) (line_at inner) (fits_here.places q.at))
 
-      -- a commit
-      log_fit : is_of_end micro ≡ false → (k : ℕ) → commits_to micro ≡ Some k → fits sizes (spots.LogWord q.descriptor k) ≡ true
-      log_fit inner k commits = both_hold _ _ (below_test q.descriptor (descriptor_count l) descriptor)
-          (below_test k part_words (log_low m l g s whole r q is all q.at k micro (line_at inner) commits))
+      -- a commit, whose part of the log is linked
+      module _ (near : needs_link q micro ≡ false) (k : ℕ) (commits : commits_to micro ≡ Some k) where
+        not_beyond : is_beyond q (Some k) ≡ false
+        not_beyond = ap (is_beyond q) (sym commits) ∙ near
 
-      -- it needs no block
-      log_asks : is_of_end micro ≡ false → (k v : ℕ) → commits_to micro ≡ Some k → commit_to q k v ≡ Some (spots.LogWord q.descriptor k, Exchanges 0 v)
-      log_asks inner k v commits =
-          let low = log_low m l g s whole r q is all q.at k micro (line_at inner) commits in
-          asks_when _ (log_spot q.descriptor q.links k) (Exchanges 0 v) (ap not (never_beyond q k low))
-          ∙ ap (λ (a : Spot). Some (a, Exchanges 0 v)) (in_first_part q.descriptor q.links k low)
+        log_fit : fits sizes (log_spot q.descriptor q.links k) ≡ true
+        log_fit = by (k / part_words) (k % part_words) (tested_not_less (length q.links) (k / part_words) not_beyond) (omega arith)
+          where
+            by : (i j : ℕ) → i ≤ length q.links → j < part_words → fits sizes (part_spot q.descriptor q.links i j) ≡ true
+            by zero j few low = both_hold _ _ (below_test q.descriptor (descriptor_count l) descriptor) (below_test j part_words low)
+            by (suc i) j few low = both_hold _ _ (below_test (slice_index q.links i) (block_count l) (known_block i (omega (arith, few)))) (below_test j part_words low)
+
+        log_asks : (v : ℕ) → commit_to q k v ≡ Some (log_spot q.descriptor q.links k, Exchanges 0 v)
+        log_asks v = asks_when _ (log_spot q.descriptor q.links k) (Exchanges 0 v) (ap not not_beyond)
 
       -- a lock of the section: a word in the table, and room for two versions
       lock_fit : (place word : ℕ) → IsLockWith m t place word → place < cell_count m l
@@ -309,15 +323,15 @@ module _ (m : Meaning) (laws : Laws m) (l : Layout) (limits : IsWithinLimits l) 
           }
 
     -- a Make's commit
-    commit_goes : (k : ℕ) → next_of m q ≡ micros.MakeCommit k → Goes kinds.MakeCommit (micros.MakeCommit k)
-    commit_goes k ahead =
+    commit_goes : (k : ℕ) → next_of m q ≡ micros.MakeCommit k → needs_link q (micros.MakeCommit k) ≡ false → Goes kinds.MakeCommit (micros.MakeCommit k)
+    commit_goes k ahead near =
         let at = next_in_line m q (micros.MakeCommit k) refl ahead in
         let before = (ordered m l g s whole r q is all).make_before q.at k at in
         let made = stored_made before.0 4 k before.1 (let e = before.2 in omega arith) before.3
         ((is_counted (m.body t) (shape m l g s whole r q is all).short).make_log q.at k at) in record {
-          asked = ap (make_commit_to q k) made.1 ∙ (log_asks (micros.MakeCommit k) ahead refl k (made.0 + 1) refl
-              ∙ ap (λ (o : Option ℕ). Some (spots.LogWord q.descriptor k, Exchanges 0 (slot_in o + 1))) (sym made.1));
-          fit = log_fit (micros.MakeCommit k) ahead refl k refl;
+          asked = ap (make_commit_to q k) made.1 ∙ (log_asks (micros.MakeCommit k) ahead near k refl (made.0 + 1)
+              ∙ ap (λ (o : Option ℕ). Some (log_spot q.descriptor q.links k, Exchanges 0 (slot_in o + 1))) (sym made.1));
+          fit = log_fit (micros.MakeCommit k) ahead near k refl;
         }
 
     -- the exchange of a stamp, from a clock number that the number of requests bounds
@@ -331,59 +345,59 @@ module _ (m : Meaning) (laws : Laws m) (l : Layout) (limits : IsWithinLimits l) 
         }
 
     -- the step that comes next
-    next_goes : (micro : Micro) → next_of m q ≡ micro → has_slot p q micro ≡ true → Goes (kind_at p q micro) micro
-    next_goes (micros.LoadCell place log) ahead has = record {
+    next_goes : (micro : Micro) → next_of m q ≡ micro → needs_link q micro ≡ false → has_slot p q micro ≡ true → Goes (kind_at p q micro) micro
+    next_goes (micros.LoadCell place log) ahead near has = record {
       asked = refl;
       fit = cell_fit (micros.LoadCell place log) ahead refl;
     }
-    next_goes (micros.Commit place log) ahead has = record {
-      asked = log_asks (micros.Commit place log) ahead refl log q.word refl;
-      fit = log_fit (micros.Commit place log) ahead refl log refl;
+    next_goes (micros.Commit place log) ahead near has = record {
+      asked = log_asks (micros.Commit place log) ahead near log refl q.word;
+      fit = log_fit (micros.Commit place log) ahead near log refl;
     }
-    next_goes (micros.NestedLoad place log) ahead has = record {
+    next_goes (micros.NestedLoad place log) ahead near has = record {
       asked = refl;
       fit = cell_fit (micros.NestedLoad place log) ahead refl;
     }
-    next_goes (micros.NestedCommit place log) ahead has = record {
-      asked = log_asks (micros.NestedCommit place log) ahead refl log q.word refl;
-      fit = log_fit (micros.NestedCommit place log) ahead refl log refl;
+    next_goes (micros.NestedCommit place log) ahead near has = record {
+      asked = log_asks (micros.NestedCommit place log) ahead near log refl q.word;
+      fit = log_fit (micros.NestedCommit place log) ahead near log refl;
     }
-    next_goes (micros.NestedHold place word) ahead has =
+    next_goes (micros.NestedHold place word) ahead near has =
         let lock : IsLockWith m t place word = inr (q.at, line_at (micros.NestedHold place word) ahead refl) in record {
           asked = asks_when _ _ _ (hold_test word (lock_room (micros.NestedHold place word) ahead place word lock));
           fit = cell_fit (micros.NestedHold place word) ahead refl;
         }
-    next_goes (micros.OutcomeLoad place log) ahead has = record {
+    next_goes (micros.OutcomeLoad place log) ahead near has = record {
       asked = refl;
       fit = cell_fit (micros.OutcomeLoad place log) ahead refl;
     }
-    next_goes (micros.OutcomeCommit place log) ahead has = record {
-      asked = log_asks (micros.OutcomeCommit place log) ahead refl log q.word refl;
-      fit = log_fit (micros.OutcomeCommit place log) ahead refl log refl;
+    next_goes (micros.OutcomeCommit place log) ahead near has = record {
+      asked = log_asks (micros.OutcomeCommit place log) ahead near log refl q.word;
+      fit = log_fit (micros.OutcomeCommit place log) ahead near log refl;
     }
-    next_goes (micros.PrivateLoad cell log) ahead has = load_goes cell log ahead has
-    next_goes (micros.PrivateStore cell log value) ahead has = store_goes cell log value ahead
-    next_goes (micros.MakeCommit log) ahead has = commit_goes log ahead
-    next_goes micros.ClockLoad ahead has = record { asked = refl; fit = refl }
-    next_goes micros.StampExchange ahead has = stamp_goes ahead
-    next_goes micros.ClockRaise ahead has = record { asked = refl; fit = refl }
-    next_goes (micros.ExchangeCell place log value) ahead has =
+    next_goes (micros.PrivateLoad cell log) ahead near has = load_goes cell log ahead has
+    next_goes (micros.PrivateStore cell log value) ahead near has = store_goes cell log value ahead
+    next_goes (micros.MakeCommit log) ahead near has = commit_goes log ahead near
+    next_goes micros.ClockLoad ahead near has = record { asked = refl; fit = refl }
+    next_goes micros.StampExchange ahead near has = stamp_goes ahead
+    next_goes micros.ClockRaise ahead near has = record { asked = refl; fit = refl }
+    next_goes (micros.ExchangeCell place log value) ahead near has =
         let old = slice_index q.trail log in record {
           asked = asks_when _ _ _ (below_test (version_of old) l.version_max
               (stored_room place log value (line_at (micros.ExchangeCell place log value) ahead refl)));
           fit = cell_fit (micros.ExchangeCell place log value) ahead refl;
         }
-    next_goes (micros.EpochForRetire slot log) ahead has = record { asked = refl; fit = refl }
-    next_goes (micros.RetireCommit slot log) ahead has = record {
-      asked = log_asks (micros.RetireCommit slot log) ahead refl log (slot + 1) refl;
-      fit = log_fit (micros.RetireCommit slot log) ahead refl log refl;
+    next_goes (micros.EpochForRetire slot log) ahead near has = record { asked = refl; fit = refl }
+    next_goes (micros.RetireCommit slot log) ahead near has = record {
+      asked = log_asks (micros.RetireCommit slot log) ahead near log refl (slot + 1);
+      fit = log_fit (micros.RetireCommit slot log) ahead near log refl;
     }
-    next_goes (micros.ReplyExchange reply) ahead has = record {
+    next_goes (micros.ReplyExchange reply) ahead near has = record {
       asked = refl;
       fit = below_test t.request (length rs) fits_here.request;
     }
-    next_goes micros.SetDone ahead has = record { asked = refl; fit = done_fit }
-    next_goes (micros.Release place word) ahead has =
+    next_goes micros.SetDone ahead near has = record { asked = refl; fit = done_fit }
+    next_goes (micros.Release place word) ahead near has =
         let lock = released_lock m l rs g s whole r q is opened place word ahead in
         let room = lock_room (micros.Release place word) ahead place word lock in
         let held = held_word q.descriptor word in
@@ -391,22 +405,107 @@ module _ (m : Meaning) (laws : Laws m) (l : Layout) (limits : IsWithinLimits l) 
           asked = asks_when _ _ _ (both_hold _ _ (hold_test word room) (below_test (version_of held) l.version_max (omega arith)));
           fit = below_test place (cell_count m l) (lock_fit (micros.Release place word) ahead place word lock);
         }
-    next_goes micros.End ahead has = absurd (let z = sym ((known.next r q is).next all) ∙ ap is_end ahead in cc)
-    next_goes (micros.CheckWord place log word) ahead has = absurd (let z = sym (next_no_check m q) ∙ ap is_check ahead in cc)
-    next_goes (micros.CheckFresh place log) ahead has = absurd (let z = sym (next_no_check m q) ∙ ap is_check ahead in cc)
-    next_goes (micros.CheckFree place log word) ahead has = absurd (let z = sym (next_no_check m q) ∙ ap is_check ahead in cc)
-    next_goes (micros.CheckHeld place log word) ahead has = absurd (let z = sym (next_no_check m q) ∙ ap is_check ahead in cc)
+    next_goes micros.End ahead near has = absurd (let z = sym ((known.next r q is).next all) ∙ ap is_end ahead in cc)
+    next_goes (micros.CheckWord place log word) ahead near has = absurd (let z = sym (next_no_check m q) ∙ ap is_check ahead in cc)
+    next_goes (micros.CheckFresh place log) ahead near has = absurd (let z = sym (next_no_check m q) ∙ ap is_check ahead in cc)
+    next_goes (micros.CheckFree place log word) ahead near has = absurd (let z = sym (next_no_check m q) ∙ ap is_check ahead in cc)
+    next_goes (micros.CheckHeld place log word) ahead near has = absurd (let z = sym (next_no_check m q) ∙ ap is_check ahead in cc)
 
-    inside_enabled : p.gone ≡ false → has_slot p q (next_of m q) ≡ true
+    inside_enabled : p.gone ≡ false → needs_link q (next_of m q) ≡ false → has_slot p q (next_of m q) ≡ true
         → Meets m l rs r p (kind_at p q (next_of m q)) (ask_at m p q (next_of m q))
-    inside_enabled there has =
-        let goes = next_goes (next_of m q) refl has in
+    inside_enabled there near has =
+        let goes = next_goes (next_of m q) refl near has in
         enabled_by (kind_at p q (next_of m q)) (ask_at m p q (next_of m q)) there
         (ap (λ b. if b then line_ask m l (kind_at p q (next_of m q)) p.nodes.free p.blocks.free q (next_of m q) else opening_ask (kind_at p q (next_of m q)) q) opened
         ∙ goes.asked) goes.fit
 
-  in_table : IsInTable m l rs q
-  in_table = record {
+    -- before a commit into a part that isn't linked a block is
+    module _ (needs : needs_link q (next_of m q) ≡ true) (some : is_some (next_block p q) ≡ true) where
+      -- a step of that, on a word of the table
+      record Links (kind : EventKind) (x : Spot × Access) : Type 0 where
+        asked : line_ask m l kind p.nodes.free p.blocks.free q (next_of m q) ≡ Some x
+        fit : fits sizes x.0 ≡ true
+
+      -- the block is one that the table has
+      in_table_by : (o : Option ℕ) → next_block p q ≡ o → is_some o ≡ true → (is_slot o (slot_in o) ≡ true) × (slot_in o < block_count l)
+      in_table_by None e has = absurd (let z = has in cc)
+      in_table_by (Some b) e has = (same_test b, in_table m l whole.logs.chain g.agreement g.epochs s whole.logs.guards r b (own q.block refl e))
+        where
+          own : (o : Option ℕ) → q.block ≡ o → make_slot o p.blocks.free ≡ Some b → 1 ≤ times b p.blocks.free + times_held (hand_of p.run) b
+          own None held last =
+              let free = times_has p.blocks.free b (last_listed p.blocks.free b (ap (λ (o : Option ℕ). is_slot o b) last ∙ same_test b)) in
+              omega (arith, free)
+          own (Some c) held last = in_hand (times b p.blocks.free) b (hand_of p.run) (ap hand_of is ∙ (held ∙ last))
+
+      abbrev block : ℕ
+      block = slot_in (next_block p q)
+
+      mine : (is_slot (next_block p q) block ≡ true) × (block < block_count l)
+      mine = in_table_by (next_block p q) refl some
+
+      -- one more word of it becomes 0
+      empties : nat_lt q.emptied block_words ≡ true → Links (kinds.PrivateStore (blocks_from m l + block) q.emptied 0) (block_spot block q.emptied, Stores 0)
+      empties less = record {
+        asked = ap (λ b. if b then block_empty_ask m l (blocks_from m l + block) q.emptied 0 p.blocks.free q else fill_store_ask m l (blocks_from m l + block) q.emptied 0 q (next_of m q)) needs
+            ∙ (asks_when _ (block_spot (blocks_from m l + block - blocks_from m l) q.emptied) (Stores 0)
+            (both_hold _ _ (le_test (blocks_from m l) block)
+            (both_hold _ _ (ap (is_slot (next_block p q)) back ∙ mine.0) (both_hold _ _ (same_test q.emptied) (both_hold _ _ less refl))))
+            ∙ ap (λ (c : ℕ). Some (block_spot c q.emptied, Stores 0)) back);
+        fit = by (q.emptied == part_words) refl;
+      }
+        where
+          back : blocks_from m l + block - blocks_from m l ≡ block
+          back = behind (blocks_from m l) block
+            where
+              behind : (n b : ℕ) → n + b - n ≡ b
+              behind n b = omega arith
+
+          le_test : (n b : ℕ) → nat_le n (n + b) ≡ true
+          le_test n b = grind (arith, nat_tests)
+
+          by : (c : Bool) → (q.emptied == part_words) ≡ c → fits sizes (cond c (spots.BlockLink block) (spots.BlockWord block q.emptied)) ≡ true
+          by true e = below_test block (block_count l) mine.1
+          by false e = both_hold _ _ (below_test block (block_count l) mine.1)
+              (below_test q.emptied part_words (let low = tested_less q.emptied block_words less in let ne = tested_other q.emptied part_words e in omega (arith, low, ne)))
+
+      -- or it goes into the link behind the last part
+      links : nat_lt q.emptied block_words ≡ false
+          → Links (kinds.LinkCommit (slot_in q.block)) (link_spot q.descriptor q.links (length q.links), Exchanges 0 (slot_in q.block + 1))
+      links full = by q.block refl
+        where
+          whole_block : q.emptied ≡ block_words
+          whole_block = let most = whole.logs.stands.most r q is in let high = tested_not_less q.emptied block_words full in omega (arith, most, high)
+
+          link_fit : (i : ℕ) → i ≤ length q.links → fits sizes (link_spot q.descriptor q.links i) ≡ true
+          link_fit zero few = below_test q.descriptor (descriptor_count l) descriptor
+          link_fit (suc i) few = below_test (slice_index q.links i) (block_count l) (known_block i (omega (arith, few)))
+
+          by : (o : Option ℕ) → q.block ≡ o → Links (kinds.LinkCommit (slot_in q.block)) (link_spot q.descriptor q.links (length q.links), Exchanges 0 (slot_in q.block + 1))
+          by None none = absurd (let zero_yet = whole.logs.stands.begun r q is none in let all = whole_block in omega (arith, zero_yet, all))
+          by (Some b) held =
+              let here : next_block p q ≡ q.block = ap (λ (o : Option ℕ). make_slot o p.blocks.free) held ∙ sym held in record {
+                asked = asks_when _ (link_spot q.descriptor q.links (length q.links)) (Exchanges 0 (slot_in q.block + 1))
+                    (both_hold _ _ needs (both_hold _ _ (ap (λ n. n == block_words) whole_block ∙ same_test block_words)
+                    (both_hold _ _ (ap (λ (o : Option ℕ). is_slot o (slot_in o)) (sym here) ∙ mine.0)
+                    (below_test (slot_in q.block) (block_count l) (subst (λ (o : Option ℕ). slot_in o < block_count l) here mine.1)))));
+                fit = link_fit (length q.links) (omega arith);
+              }
+
+      linking_enabled : p.gone ≡ false → Meets m l rs r p (link_kind m l p q) (link_ask p q)
+      linking_enabled there = by (nat_lt q.emptied block_words) refl
+        where
+          meets : (kind : EventKind) (x : Spot × Access) → Links kind x → Meets m l rs r p kind x
+          meets kind x goes = enabled_by kind x there
+              (ap (λ b. if b then line_ask m l kind p.nodes.free p.blocks.free q (next_of m q) else opening_ask kind q) opened ∙ goes.asked) goes.fit
+
+          by : (b : Bool) → nat_lt q.emptied block_words ≡ b → Meets m l rs r p
+              (if b then kinds.PrivateStore (blocks_from m l + block) q.emptied 0 else kinds.LinkCommit (slot_in q.block))
+              (if b then (block_spot block q.emptied, Stores 0) else (link_spot q.descriptor q.links (length q.links), Exchanges 0 (slot_in q.block + 1)))
+          by true less = meets _ _ (empties less)
+          by false full = meets _ _ (links full)
+
+  run_in_table : IsInTable m l rs q
+  run_in_table = record {
     descriptor = descriptor;
     most = (known.next r q is).most;
     thunk = λ all. fits_here all;
@@ -418,9 +517,10 @@ module _ (m : Meaning) (laws : Laws m) (l : Layout) (limits : IsWithinLimits l) 
 pub next_enabled : (m : Meaning) → Laws m → (l : Layout) → IsWithinLimits l → (rs : List Request) → length rs ≤ 131072 → (s : Sight)
     → IsKnown m l rs s → NextIsEnabled m l rs s
 next_enabled m laws l limits rs few s known = record {
-  runs = λ r q is. in_table m laws l limits rs few s known r q is;
+  runs = λ r q is. run_in_table m laws l limits rs few s known r q is;
   opening = λ r q there is low. opening_enabled m laws l limits rs few s known r q is there low;
-  inside = λ r q there is all has. inside_enabled m laws l limits rs few s known r q is all there has;
+  linking = λ r q there is all needs some. linking_enabled m laws l limits rs few s known r q is all needs some there;
+  inside = λ r q there is all near has. inside_enabled m laws l limits rs few s known r q is all there near has;
 }
 
 -- and in every reached one

@@ -20,3 +20,5 @@ pub mod Enabled
 pub mod GoingOn
 pub mod Stages
 pub mod Lines
+mod Links
+pub mod Stocks

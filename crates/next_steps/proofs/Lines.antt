@@ -1,5 +1,5 @@
 -- What stands in the line of a run's section, and how far the run has come.
-use Rattle.std.specs.Prelude.{◌⊎◌, ◌==◌, ◌&&◌, ◌/◌, ◌%◌, cond, nat_lt, slice_index_or, Bool, true, false}
+use Rattle.std.specs.Prelude.{◌⊎◌, ◌==◌, ◌&&◌, cond, nat_lt, slice_index_or, Bool, true, false}
 use Rattle.std.proofs.Common.{◌≡◌, ℕ, zero, suc, ◌<◌, ◌≤◌, List, [], ◌∷◌, ◌++◌, length, length-append, take, ⊎_elim, sym, refl, ap, ◌∙◌, subst, arith, Some}
 use Rattle.std.proofs.lemmas.Bool.Decides.{nat_tests}
 use Rattle.std.proofs.lemmas.Bool.{cases_lt}
@@ -9,42 +9,20 @@ use Rattle.machine_states.specs.body_terms.specs.declared.micro.Micro.TheVariant
 use Rattle.machine_states.specs.body_terms.specs.declared.step.Step.{Step}
 use Rattle.machine_states.specs.body_terms.specs.declared.thunk.Thunk.{Thunk}
 use Rattle.machine_states.specs.body_terms.specs.Shape.{IsShaped}
-use Rattle.machine_states.specs.body_terms.specs.Line.{is_check, is_commit, is_end, is_event, micro_at, releases, ending, committed}
-use Rattle.agreement_core.specs.section_lines.specs.Line.{IsInPhases, IsCounted, IsResolved, IsOrdered}
-use Rattle.agreement_core.specs.section_lines.proofs.Counted.{is_counted}
+use Rattle.machine_states.specs.body_terms.specs.Line.{is_check, is_end, is_event, micro_at, releases, ending}
+use Rattle.agreement_core.specs.section_lines.specs.Line.{IsInPhases, IsOrdered}
 use Rattle.agreement_core.specs.section_lines.proofs.Ordered.{is_ordered}
 use Rattle.agreement_core.specs.section_lines.proofs.Phases.{is_in_phases}
-use Rattle.agreement_core.specs.section_lines.proofs.Resolved.{is_resolved}
 use Rattle.machine_states.specs.table_words.specs.declared.layout.Layout.{Layout}
-use Rattle.machine_states.specs.table_words.specs.declared.spot.Spot.TheVariants as spots
-use Rattle.machine_states.specs.table_words.specs.Places.{part_words}
 use Rattle.machine_states.specs.structure_laws.specs.Meaning.{Meaning}
 use Rattle.machine_states.specs.runner_parts.specs.State.{RunState}
-use Rattle.machine_states.specs.runner_steps.specs.Sections.{thunk_of, line_limit, is_open_run, line_of, next_of, commits_to, is_beyond}
-use Rattle.machine_states.specs.runner_parts.specs.block_words.specs.Blocks.{part_spot, log_spot}
+use Rattle.machine_states.specs.runner_steps.specs.Sections.{thunk_of, line_limit, is_open_run, line_of, next_of}
 use Rattle.machine_states.specs.Sight.{Sight}
 use Rattle.machine_invariant.specs.machine_blocks.specs.machine_guards.specs.machine_agreement.proofs.RunPlaces.{not_ended}
 use Rattle.machine_invariant.specs.Whole.{Beside, IsWhole}
 use Rattle.next_steps.proofs.Runs.{section, here, section_sound, run_sound, shaped, code}
 use Rattle.next_steps.proofs.Releases.{fewer_releases}
 use Rattle.next_steps.proofs.Ends.{HasNext}
-
--- A body's log has its room in the part that its descriptor has. This is the one place that goes by how many words a part
--- has: with fewer, a run may have to link blocks before a commit
-first_part_has_all : (k : ℕ) → k < 64 → k < part_words
-first_part_has_all k low = omega (arith, low)
-
--- so no block has to be linked before a commit there, and it goes to a word of the descriptor
-pub never_beyond : (q : RunState) (k : ℕ) → k < part_words → is_beyond q (Some k) ≡ false
-never_beyond q k low = by (length q.links) (k / part_words) (omega (arith, low))
-  where
-    by : (n i : ℕ) → i ≡ 0 → nat_lt n i ≡ false
-    by n i e = grind (arith, nat_tests)
-
-pub in_first_part : (d : ℕ) (links : List ℕ) (k : ℕ) → k < part_words → log_spot d links k ≡ spots.LogWord d k
-in_first_part d links k low =
-    let first : k / part_words ≡ 0 = omega (arith, low) in
-    let whole : k % part_words ≡ k = omega (arith, low) in λ i. part_spot d links (first i) (whole i)
 
 -- the end of a run has no check
 tail_checks : (ms : List Micro) (lock word n : ℕ) → is_check (slice_index_or (releases ms ++ micros.Release lock word ∷ []) n micros.End) ≡ false
@@ -121,12 +99,6 @@ module _ (m : Meaning) (l : Layout) (g : Beside) (s : Sight) (whole : IsWhole m 
   phases : IsInPhases (micro_at (line_of m q))
   phases = is_in_phases body shape
 
-  counted : IsCounted (micro_at (line_of m q)) (committed (line_of m q))
-  counted = is_counted body shape.short
-
-  resolved : IsResolved (micro_at (line_of m q)) (committed (line_of m q))
-  resolved = is_resolved body shape
-
   pub ordered : IsOrdered (micro_at (line_of m q))
   ordered = is_ordered body
 
@@ -163,18 +135,3 @@ module _ (m : Meaning) (l : Layout) (g : Beside) (s : Sight) (whole : IsWhole m 
     where
       test : (n at ended : ℕ) → n ≡ 13 → at < 440 → ended < 440 → (n == 13 && (nat_lt at line_limit && nat_lt ended line_limit)) ≡ true
       test n at ended e low low' = grind (arith, nat_tests)
-
-  below : (i k log : ℕ) → Some log ≡ Some k → is_commit (micro_at (line_of m q) i) ≡ true → log ≡ committed (line_of m q) i → k < part_words
-  below i k log same commit here =
-      let one : log ≡ k = cc in let next = counted.slot_commit i commit in let most = counted.slot_most (suc i) in
-      first_part_has_all k (omega arith)
-
-  -- a commit goes to one of the words of the log's first part
-  pub log_low : (i k : ℕ) (micro : Micro) → micro_at (line_of m q) i ≡ micro → commits_to micro ≡ Some k → k < part_words
-  log_low i k (micros.Commit p log) at is =
-      below i k log is (ap is_commit at) (counted.commit_log i p log at)
-  log_low i k (micros.NestedCommit p log) at is = below i k log is (ap is_commit at) (counted.nested_log i p log at)
-  log_low i k (micros.OutcomeCommit p log) at is = below i k log is (ap is_commit at) (counted.outcome_log i p log at)
-  log_low i k (micros.MakeCommit log) at is = below i k log is (ap is_commit at) (counted.make_log i log at)
-  log_low i k (micros.RetireCommit slot log) at is = below i k log is (ap is_commit at) (counted.retire_log i slot log at)
-  log_low i k _ at is = absurd (let z = is in cc)

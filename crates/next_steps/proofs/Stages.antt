@@ -1,25 +1,30 @@
 -- What a caller may do in a run, and what its part is then.
-use Rattle.std.specs.Prelude.{◌==◌, ◌&&◌, nat_lt, is_some, Bool, true, false, if◌then◌else◌}
-use Rattle.std.proofs.Common.{◌≡◌, ℕ, ◌+◌, ◌<◌, List, [], ◌∷◌, ◌++◌, length, sym, refl, ap, ◌∙◌, subst, arith, Option, Some, None}
+use Rattle.std.specs.Prelude.{◌==◌, ◌&&◌, ◌-◌, nat_lt, is_some, Bool, true, false, if◌then◌else◌}
+use Rattle.std.proofs.Common.{◌≡◌, ℕ, ◌+◌, ◌<◌, ◌≤◌, List, [], ◌∷◌, ◌++◌, length, sym, refl, ap, ◌∙◌, subst, arith, Option, Some, None}
 use Rattle.std.proofs.lemmas.Bool.Decides.{nat_tests}
 use Rattle.machine_states.specs.map_history.specs.declared.op.Request.{Request}
 use Rattle.machine_states.specs.body_terms.specs.declared.micro.Micro.{Micro}
 use Rattle.machine_states.specs.body_terms.specs.declared.micro.Micro.TheVariants as micros
 use Rattle.machine_states.specs.body_terms.specs.Line.{is_end, is_check}
 use Rattle.machine_states.specs.body_terms.specs.Run.{written_once}
+use Rattle.machine_states.specs.epoch_core.specs.Lists.{times}
 use Rattle.machine_states.specs.table_words.specs.declared.layout.Layout.{Layout}
 use Rattle.machine_states.specs.table_words.specs.declared.spot.Spot.{Spot}
 use Rattle.machine_states.specs.table_words.specs.declared.access.Access.{Access}
 use Rattle.machine_states.specs.table_words.specs.Limits.{IsWithinLimits}
+use Rattle.machine_states.specs.table_words.specs.Places.{block_words}
 use Rattle.machine_states.specs.structure_laws.specs.Meaning.{Meaning}
 use Rattle.machine_states.specs.structure_laws.specs.Laws.{Laws}
 use Rattle.machine_states.specs.runner_parts.specs.declared.event.EventKind.{EventKind}
+use Rattle.machine_states.specs.runner_parts.specs.declared.event.EventKind.TheVariants as kinds
 use Rattle.machine_states.specs.runner_parts.specs.declared.entries.Published.{Published}
 use Rattle.machine_states.specs.runner_parts.specs.State.{RunState, FinishedState, RecordsState, DescriptorsState, PartState}
-use Rattle.machine_states.specs.runner_steps.specs.Sections.{thunk_of, is_open_run, next_of, commits_to}
+use Rattle.machine_states.specs.runner_steps.specs.Sections.{thunk_of, is_open_run, next_of, commits_to, needs_link}
 use Rattle.machine_states.specs.runner_steps.specs.InRun.{make_slot, last_clock, stamp_after}
 use Rattle.machine_states.specs.runner_steps.specs.After.{line_after, after_by, after}
 use Rattle.machine_states.specs.runner_steps.specs.Asks.{line_ask}
+use Rattle.machine_states.specs.runner_steps.specs.Outside.{blocks_from}
+use Rattle.machine_states.specs.runner_steps.specs.Blocks.{block_in_hand, blocks_in_line, blocks_after}
 use Rattle.machine_states.specs.runner_parts.specs.Lists.{cell_read, learned}
 use Rattle.machine_states.specs.runner_steps.specs.AfterInRun as inside
 use Rattle.machine_states.specs.Sight.{Sight, sight, part_or_first}
@@ -28,11 +33,12 @@ use Rattle.machine_invariant.specs.machine_blocks.specs.machine_guards.specs.mac
 use Rattle.machine_invariant.specs.machine_blocks.specs.machine_guards.specs.machine_agreement.proofs.LineAsked.{line_asked, stamp_asked, make_commit_asked}
 use Rattle.machine_invariant.specs.After.{AreAllowed}
 use Rattle.machine_invariant.proofs.After.{log_words_after}
-use Rattle.next_steps.specs.Steps.{slot_in, kind_at, ask_at, opening_kind, opened_next, has_slot}
+use Rattle.next_steps.specs.Steps.{slot_in, kind_at, ask_at, next_block, link_kind, link_ask, opening_kind, opened_next, has_slot}
 use Rattle.next_steps.specs.Enabled.{Meets, IsInTable, NextIsEnabled}
-use Rattle.next_steps.specs.Stages.{IsInRun, filling_slot, nodes_taking, unfilled, run_behind, nodes_behind, reads_behind, published_behind, descriptors_behind, finished_behind, IsBehind, ThenOpened, ThenStepped}
+use Rattle.next_steps.specs.Stages.{IsInRun, filling_slot, nodes_taking, unfilled, run_behind, nodes_behind, reads_behind, published_behind, descriptors_behind, blocks_behind, finished_behind, ThenOpened, ThenStepped, ThenLinked}
 use Rattle.next_steps.proofs.Lines.{next_no_check}
 use Rattle.next_steps.proofs.Enabled.{IsKnown, next_enabled, reached_known}
+use Rattle.next_steps.proofs.Stocks.{free_once, stock_stays}
 
 module _ (m : Meaning) (laws : Laws m) (l : Layout) (limits : IsWithinLimits l) (rs : List Request) (allowed : AreAllowed rs) where
   module _ (r : ℕ) (p : PartState) (q : RunState) (is : IsInRun m l rs r p q) where
@@ -65,11 +71,15 @@ module _ (m : Meaning) (laws : Laws m) (l : Layout) (limits : IsWithinLimits l) 
       opened = (enabled.runs r q runs).goes all
 
       module _ (micro : Micro) (ahead : next_of m q ≡ micro) where
-        pub may_step : has_slot p q micro ≡ true → Meets m l rs r p (kind_at p q micro) (ask_at m p q micro)
-        may_step has = subst (λ (x : Micro). Meets m l rs r p (kind_at p q x) (ask_at m p q x)) ahead
+        pub may_step : needs_link q micro ≡ false → has_slot p q micro ≡ true → Meets m l rs r p (kind_at p q micro) (ask_at m p q micro)
+        may_step near has = subst (λ (x : Micro). Meets m l rs r p (kind_at p q x) (ask_at m p q x)) ahead
             (subst (λ (y : PartState). Meets m l rs r y (kind_at y q (next_of m q)) (ask_at m y q (next_of m q))) seen
-            (enabled.inside r q there runs all
+            (enabled.inside r q there runs all (ap (needs_link q) ahead ∙ near)
             (ap (λ (y : PartState). has_slot y q (next_of m q)) seen ∙ (ap (has_slot p q) ahead ∙ has))))
+
+        pub may_link : needs_link q micro ≡ true → is_some (next_block p q) ≡ true → Meets m l rs r p (link_kind m l p q) (link_ask p q)
+        may_link needs some = subst (λ (y : PartState). Meets m l rs r y (link_kind m l y q) (link_ask y q)) seen
+            (enabled.linking r q there runs all (ap (needs_link q) ahead ∙ needs) (ap (λ (y : PartState). is_some (next_block y q)) seen ∙ some))
 
         pub commits_behind : (k : ℕ) → commits_to micro ≡ Some k → k ≡ length q.trail
         commits_behind k commits = (log_words_after m laws l rs is.reached.events is.world limits allowed is.reached.after).next r k q runs all
@@ -154,10 +164,40 @@ learned_finished z request reply n = by (n == 0)
     by true = refl
     by false = refl
 
+-- what a part is behind a step, but for its blocks
+record Stands (m : Meaning) (l : Layout) (p : PartState) (q : RunState) (micro : Micro) (found : ℕ) (p' : PartState) : Type 0 where
+  run : p'.run ≡ run_behind m l p q micro found
+  nodes : p'.nodes ≡ nodes_behind p q micro found
+  reads : p'.reads ≡ reads_behind p q micro found
+  published : p'.published ≡ published_behind m p q micro
+  finished : p'.records.finished ≡ finished_behind m l p q micro
+  descriptors : p'.descriptors ≡ descriptors_behind m p q micro
+  guards : p'.guards ≡ p.guards
+  stage : p'.stage ≡ p.stage
+  present : p'.gone ≡ p.gone
+
+-- and its blocks
+module _ (m : Meaning) (l : Layout) (p : PartState) (q : RunState) (micro : Micro) (found : ℕ) where
+  blocks_step : needs_link q micro ≡ false → blocks_in_line m l (kind_at p q micro) p.blocks q micro found ≡ blocks_behind m p q micro
+  blocks_step near = by micro refl
+    where
+      by : (x : Micro) → micro ≡ x → blocks_in_line m l (kind_at p q x) p.blocks q micro found ≡ blocks_behind m p q x
+      by (micros.PrivateStore cell log value) e = ap (λ b. if b
+          then block_in_hand p.blocks (slot_in q.made - blocks_from m l) q.block
+          else p.blocks) near
+      by (micros.PrivateLoad cell log) e = refl
+      by _ e = refl
+
+  blocks_stand : (runs : p.run ≡ Some q) → is_open_run q ≡ true → next_of m q ≡ micro → needs_link q micro ≡ false
+      → blocks_after m l (kind_at p q micro) p p.run found ≡ blocks_behind m p q micro
+  blocks_stand runs opened ahead near = ap (λ (o : Option RunState). blocks_after m l (kind_at p q micro) p o found) runs
+      ∙ (ap (λ b. if b then blocks_in_line m l (kind_at p q micro) p.blocks q (next_of m q) found else p.blocks) opened
+      ∙ (ap (λ (x : Micro). blocks_in_line m l (kind_at p q micro) p.blocks q x found) ahead ∙ blocks_step near))
+
 -- the part behind each step of a line
 module _ (m : Meaning) (l : Layout) (p : PartState) (q : RunState) (runs : p.run ≡ Some q) (found : ℕ) where
   abbrev Behind : Micro → PartState → Type 0
-  Behind micro p' = IsBehind m l p q micro found p'
+  Behind micro p' = Stands m l p q micro found p'
 
   behind : (micro : Micro) (p' : PartState) → p'.run ≡ run_behind m l p q micro found → p'.nodes ≡ nodes_behind p q micro found
       → p'.reads ≡ reads_behind p q micro found → p'.published ≡ published_behind m p q micro
@@ -298,12 +338,23 @@ module _ (m : Meaning) (l : Layout) (rs : List Request) (r : ℕ) (p : PartState
       let h = make_commit_asked q (ask_at m p q (micros.MakeCommit log)) (micros.MakeCommit log)
       (subst (λ (y : Micro). line_ask m l (kind_at p q y) p.nodes.free p.blocks.free q y ≡ Some (ask_at m p q y)) e asked) in ap is_some h.3
 
+-- a part that has what this one has, but for its run and its blocks
+record Leaves (p y : PartState) : Type 0 where
+  nodes : y.nodes ≡ p.nodes
+  reads : y.reads ≡ p.reads
+  published : y.published ≡ p.published
+  finished : y.records.finished ≡ p.records.finished
+  descriptors : y.descriptors ≡ p.descriptors
+  guards : y.guards ≡ p.guards
+  stage : y.stage ≡ p.stage
+  present : y.gone ≡ p.gone
+
 module _ (m : Meaning) (laws : Laws m) (l : Layout) (limits : IsWithinLimits l) (rs : List Request) (allowed : AreAllowed rs) where
   pub then_stepped : ThenStepped m l rs
-  then_stepped r p q micro x found is all ahead has =
+  then_stepped r p q micro x found is all ahead near has =
       let knows = known m laws l limits rs allowed r p q is in
       let same = line_same m l r p q is.running (kind_at p q micro) x found micro (opened m laws l limits rs allowed r p q is all) ahead in
-      let meets = may_step m laws l limits rs allowed r p q is all micro ahead has in
+      let meets = may_step m laws l limits rs allowed r p q is all micro ahead near has in
       let h = step_behind m l p q is.running found micro (ap is_check (sym ahead) ∙ next_no_check m q)
       (ap is_end (sym ahead) ∙ ((knows.next r q (runs m laws l limits rs allowed r p q is)).next all))
       (λ e. stamp_low m l rs r p q is.running (opened m laws l limits rs allowed r p q is all) micro e ahead meets)
@@ -315,7 +366,49 @@ module _ (m : Meaning) (laws : Laws m) (l : Layout) (limits : IsWithinLimits l) 
         published = same.published ∙ h.published;
         finished = same.finished ∙ h.finished;
         descriptors = same.descriptors ∙ h.descriptors;
+        blocks = blocks_stand m l p q micro found is.running (opened m laws l limits rs allowed r p q is all) ahead near;
         guards = same.guards ∙ h.guards;
         stage = same.stage ∙ h.stage;
         present = same.present ∙ h.present;
       }
+
+  pub then_linked : ThenLinked m l rs
+  then_linked r p q micro x found is all ahead needs =
+      let same = line_same m l r p q is.running (kind_by less) x found micro (opened m laws l limits rs allowed r p q is all) ahead in
+      let h = leaves less in
+      let knows = known m laws l limits rs allowed r p q is in
+      record {
+        run = same.run ∙ line_run less;
+        blocks = ap (λ (o : Option RunState). blocks_after m l (link_kind m l p q) p o found) is.running;
+        kept = stock_stays m l p q found (opened m laws l limits rs allowed r p q is all) (ap (needs_link q) ahead ∙ needs)
+            (λ b. subst (λ (y : PartState). times b y.blocks.free ≤ 1) (seen m laws l limits rs allowed r p q is) (free_once m l knows.beside (sight m l rs is.world) knows.whole r b))
+            (after m l r (link_kind m l p q) x.0 x.1 p found) (same.run ∙ line_run less)
+            (ap (λ (o : Option RunState). blocks_after m l (link_kind m l p q) p o found) is.running);
+        nodes = same.nodes ∙ h.nodes;
+        reads = same.reads ∙ h.reads;
+        published = same.published ∙ h.published;
+        finished = same.finished ∙ h.finished;
+        descriptors = same.descriptors ∙ h.descriptors;
+        guards = same.guards ∙ h.guards;
+        stage = same.stage ∙ h.stage;
+        present = same.present ∙ h.present;
+      }
+    where
+      less : Bool
+      less = nat_lt q.emptied block_words
+
+      kind_by : Bool → EventKind
+      kind_by b = if b then kinds.PrivateStore (blocks_from m l + slot_in (next_block p q)) q.emptied 0 else kinds.LinkCommit (slot_in q.block)
+
+      back : (n b : ℕ) → n + b - n ≡ b
+      back n b = omega arith
+
+      line_run : (b : Bool) → (line_after m l (kind_by b) p q micro found).run
+          ≡ (if b then Some (inside.block_emptied (slot_in (next_block p q)) q) else (inside.link_committed (slot_in q.block) p q found).run)
+      line_run true = ap (λ c. Some (if c then inside.block_emptied (blocks_from m l + slot_in (next_block p q) - blocks_from m l) q else inside.filled m l 0 q)) needs
+          ∙ ap (λ (b : ℕ). Some (inside.block_emptied b q)) (back (blocks_from m l) (slot_in (next_block p q)))
+      line_run false = refl
+
+      leaves : (b : Bool) → Leaves p (line_after m l (kind_by b) p q micro found)
+      leaves true = record { nodes = refl; reads = refl; published = refl; finished = refl; descriptors = refl; guards = refl; stage = refl; present = refl }
+      leaves false = record { nodes = refl; reads = refl; published = refl; finished = refl; descriptors = refl; guards = refl; stage = refl; present = refl }

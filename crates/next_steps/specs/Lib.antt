@@ -4,3 +4,4 @@ pub mod Numbers
 pub mod Looks
 pub mod Enabled
 pub mod Stages
+pub mod Links

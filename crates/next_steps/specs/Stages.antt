@@ -1,5 +1,5 @@
 -- The steps of a run, for a caller that has its runner's part: which one it may make, and what the part is then.
-use Rattle.std.specs.Prelude.{ℕ, ◌+◌, ◌<◌, ◌≡◌, ◌==◌, ◌||◌, true, false, List, [], ◌∷◌, ◌++◌, length, slice_get, Option, Some, None, if◌then◌else◌}
+use Rattle.std.specs.Prelude.{ℕ, ◌+◌, ◌<◌, ◌≤◌, ◌≡◌, ◌==◌, ◌||◌, true, false, is_some, nat_lt, List, [], ◌∷◌, ◌++◌, length, slice_get, Option, Some, None, if◌then◌else◌}
 use Rattle.machine_states.specs.map_history.specs.declared.op.Request.{Request}
 use Rattle.machine_states.specs.body_terms.specs.declared.micro.Micro.{Micro}
 use Rattle.machine_states.specs.body_terms.specs.declared.micro.Micro.TheVariants as micros
@@ -11,15 +11,17 @@ use Rattle.machine_states.specs.table_words.specs.declared.spot.Spot.{Spot}
 use Rattle.machine_states.specs.table_words.specs.declared.access.Access.{Access}
 use Rattle.machine_states.specs.structure_laws.specs.Meaning.{Meaning}
 use Rattle.machine_states.specs.runner_parts.specs.declared.entries.Published.{Published}
-use Rattle.machine_states.specs.runner_parts.specs.State.{RunState, FinishedState, NodesState, DescriptorsState, ReadsState, PartState}
-use Rattle.machine_states.specs.runner_parts.specs.Lists.{slot_taken, slot_retired, cell_read}
-use Rattle.machine_states.specs.runner_steps.specs.Sections.{next_of, commits_to}
+use Rattle.machine_states.specs.runner_parts.specs.State.{RunState, FinishedState, NodesState, DescriptorsState, BlocksState, ReadsState, PartState}
+use Rattle.machine_states.specs.runner_parts.specs.Lists.{slot_taken, slot_retired, cell_read, blocks_retired}
+use Rattle.machine_states.specs.runner_steps.specs.Sections.{next_of, commits_to, needs_link}
+use Rattle.machine_states.specs.runner_steps.specs.Blocks.{blocks_after}
+use Rattle.machine_states.specs.table_words.specs.Places.{block_words}
 use Rattle.machine_states.specs.runner_steps.specs.InRun.{make_slot, stamp_after}
-use Rattle.machine_states.specs.runner_steps.specs.AfterInRun.{goes_on, agrees, made, ended_more, kept_unless, retired_if, finished_of}
+use Rattle.machine_states.specs.runner_steps.specs.AfterInRun.{goes_on, agrees, made, ended_more, block_emptied, link_committed, kept_unless, retired_if, finished_of}
 use Rattle.machine_states.specs.runner_steps.specs.After.{after}
 use Rattle.machine_states.specs.World.{World, seat_of}
 use Rattle.machine_states.specs.Reached.{Reached}
-use Rattle.next_steps.specs.Steps.{slot_in, kind_at, ask_at, opening_kind, opened_next, has_slot}
+use Rattle.next_steps.specs.Steps.{slot_in, kind_at, ask_at, next_block, stock, link_kind, link_ask, opening_kind, opened_next, has_slot}
 use Rattle.next_steps.specs.Enabled.{Meets, IsInTable}
 
 -- a runner with this part, which wasn't joined and is in this run, in a state that the machine reaches
@@ -103,6 +105,12 @@ descriptors_behind m p q (micros.Release place word) =
     if is_end (next_of m (ended_more q)) then retired_if p.descriptors p.published q.descriptor else p.descriptors
 descriptors_behind m p q _ = p.descriptors
 
+-- its own blocks: with the run's last release those that it linked go into limbo under its descriptor
+abbrev pub blocks_behind : Meaning → PartState → RunState → Micro → BlocksState
+blocks_behind m p q (micros.Release place word) =
+    if is_end (next_of m (ended_more q)) then blocks_retired p.blocks q.won q.descriptor else p.blocks
+blocks_behind m p q _ = p.blocks
+
 abbrev pub finished_behind : Meaning → Layout → PartState → RunState → Micro → List FinishedState
 finished_behind m l p q (micros.Release place word) = let f = p.records.finished in
     if is_end (next_of m (ended_more q)) then f ++ finished_of m l (ended_more q) ∷ [] else f
@@ -117,9 +125,31 @@ pub record IsBehind (m : Meaning) (l : Layout) (p : PartState) (q : RunState) (m
   pub published : p'.published ≡ published_behind m p q micro
   pub finished : p'.records.finished ≡ finished_behind m l p q micro
   pub descriptors : p'.descriptors ≡ descriptors_behind m p q micro
+  pub blocks : p'.blocks ≡ blocks_behind m p q micro
   pub guards : p'.guards ≡ p.guards
   pub stage : p'.stage ≡ p.stage
   pub present : p'.gone ≡ p.gone
+
+-- the run behind a step by which it links a block, which found this word
+abbrev pub run_linked : PartState → RunState → ℕ → Option RunState
+run_linked p q found =
+    if nat_lt q.emptied block_words then Some (block_emptied (slot_in (next_block p q)) q)
+    else (link_committed (slot_in q.block) p q found).run
+
+-- what the part is behind it; its blocks are what `blocks_after` says, so none is lost
+pub record IsLinked (m : Meaning) (l : Layout) (p : PartState) (q : RunState) (found : ℕ) (p' : PartState) : Type 0
+  where
+    pub run : p'.run ≡ run_linked p q found
+    pub blocks : p'.blocks ≡ blocks_after m l (link_kind m l p q) p (Some q) found
+    pub kept : (q' : RunState) → p'.run ≡ Some q' → stock p q ≤ stock p' q'
+    pub nodes : p'.nodes ≡ p.nodes
+    pub reads : p'.reads ≡ p.reads
+    pub published : p'.published ≡ p.published
+    pub finished : p'.records.finished ≡ p.records.finished
+    pub descriptors : p'.descriptors ≡ p.descriptors
+    pub guards : p'.guards ≡ p.guards
+    pub stage : p'.stage ≡ p.stage
+    pub present : p'.gone ≡ p.gone
 
 module _ (m : Meaning) (l : Layout) (requests : List Request) where
   -- such a run is in the table, and open once it has loaded its thunk and its done word
@@ -136,11 +166,24 @@ module _ (m : Meaning) (l : Layout) (requests : List Request) where
       → length q.opened < 13
       → (after m l r (opening_kind q) x.0 x.1 p found).run ≡ Some (record q { opened = q.opened ++ found ∷ [] })
 
-  -- from then on the step that stands next is enabled, but where a Make is to take a slot and has none
+  -- from then on the step that stands next is enabled, but where a Make is to take a slot and has none, or a block is
+  -- to be linked first
   abbrev pub MayStep : Type 0
   MayStep = (r : ℕ) (p : PartState) (q : RunState) (micro : Micro) → IsInRun m l requests r p q → length q.opened ≡ 13
-      → next_of m q ≡ micro → has_slot p q micro ≡ true
+      → next_of m q ≡ micro → needs_link q micro ≡ false → has_slot p q micro ≡ true
       → Meets m l requests r p (kind_at p q micro) (ask_at m p q micro)
+
+  -- and then the next step by which one is linked is, where the runner has one
+  abbrev pub MayLink : Type 0
+  MayLink = (r : ℕ) (p : PartState) (q : RunState) (micro : Micro) → IsInRun m l requests r p q → length q.opened ≡ 13
+      → next_of m q ≡ micro → needs_link q micro ≡ true → is_some (next_block p q) ≡ true
+      → Meets m l requests r p (link_kind m l p q) (link_ask p q)
+
+  -- behind it the run stands where it stood
+  abbrev pub ThenLinked : Type 0
+  ThenLinked = (r : ℕ) (p : PartState) (q : RunState) (micro : Micro) (x : Spot × Access) (found : ℕ)
+      → IsInRun m l requests r p q → length q.opened ≡ 13 → next_of m q ≡ micro → needs_link q micro ≡ true
+      → IsLinked m l p q found (after m l r (link_kind m l p q) x.0 x.1 p found)
 
   -- a commit goes to the log word behind the words that were agreed on
   abbrev pub CommitsBehind : Type 0
@@ -152,5 +195,5 @@ module _ (m : Meaning) (l : Layout) (requests : List Request) where
   abbrev pub ThenStepped : Type 0
   ThenStepped = (r : ℕ) (p : PartState) (q : RunState) (micro : Micro) (x : Spot × Access) (found : ℕ)
       → IsInRun m l requests r p q
-      → length q.opened ≡ 13 → next_of m q ≡ micro → has_slot p q micro ≡ true
+      → length q.opened ≡ 13 → next_of m q ≡ micro → needs_link q micro ≡ false → has_slot p q micro ≡ true
       → IsBehind m l p q micro found (after m l r (kind_at p q micro) x.0 x.1 p found)

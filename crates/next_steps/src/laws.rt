@@ -11,15 +11,17 @@ ghost use Rattle.next_steps.specs.Rooms.{ClockIsSmall, RoomsStand, ThunksFit};
 ghost use Rattle.next_steps.specs.Numbers.{NumbersFit};
 ghost use Rattle.next_steps.specs.Looks.{LooksAreSmall, LooksHaveStamps};
 ghost use Rattle.next_steps.specs.Enabled.{NextIsEnabled, RunsGoOn};
-ghost use Rattle.next_steps.specs.Stages.{RunsAreInTable, MayOpen, ThenOpened, MayStep, CommitsBehind, ThenStepped};
+ghost use Rattle.next_steps.specs.Links.{OneLinkIsEnough};
+ghost use Rattle.next_steps.specs.Stages.{RunsAreInTable, MayOpen, ThenOpened, MayStep, MayLink, ThenLinked, CommitsBehind, ThenStepped};
 
 use machine_states::structure_laws::Structure;
 
 /// Over every structure, in every state that the machine reaches: a runner that is in a run and wasn't
 /// joined has an enabled event. Until the run has loaded the thunk and the done word it is the next of
 /// these loads; from then on it is the step that comes next in the line of the run's body, or at its end.
-/// The one exception is a Make's first private load where the runner's free list is empty. So the machine
-/// can make that event.
+/// Before a commit into a part of the log that isn't linked it is the next step by which a block is linked. The
+/// exceptions are a Make's first private load and the first step of a link, where the runner has no free slot or no
+/// free block. So the machine can make that event.
 pub fn next_steps_are_enabled<S: Structure>(structure: &S)
     ensures enabled { (layout : Layout) (requests : List Request) (w : World) → IsWithinLimits layout
         → AreAllowed requests
@@ -91,8 +93,10 @@ pub fn numbers_are_the_tables<S: Structure>(structure: &S)
 /// What a caller may do with a runner that is in a run, by its part in a state that the machine reaches.
 /// The run's descriptor, its thunk and its body's line are within the table, and the body has the shape. In
 /// the opening it may make the next load, which adds the word that it finds. From then on it may make the
-/// step that stands next, but where a Make is to take a slot and has none; a commit goes to the log word
-/// behind the words that were agreed on; and behind the step the part is the one that the step leaves.
+/// step that stands next, but where a Make is to take a slot and has none, or a block is to be linked first;
+/// then it may make the next step by which one is linked, where it has one, behind which none of its blocks is lost, and
+/// one is enough. A commit goes to the log word behind the words that were agreed on; and behind the step the part is the
+/// one that the step leaves.
 pub fn runs_may_be_followed<S: Structure>(structure: &S)
     ensures known { (layout : Layout) (requests : List Request) → IsWithinLimits layout → AreAllowed requests
         → RunsAreInTable (S.meaning structure.now) layout requests }
@@ -102,6 +106,12 @@ pub fn runs_may_be_followed<S: Structure>(structure: &S)
         → ThenOpened (S.meaning structure.now) layout requests }
     ensures step { (layout : Layout) (requests : List Request) → IsWithinLimits layout → AreAllowed requests
         → MayStep (S.meaning structure.now) layout requests }
+    ensures link { (layout : Layout) (requests : List Request) → IsWithinLimits layout → AreAllowed requests
+        → MayLink (S.meaning structure.now) layout requests }
+    ensures enough { (layout : Layout) (requests : List Request) → IsWithinLimits layout → AreAllowed requests
+        → OneLinkIsEnough (S.meaning structure.now) layout requests }
+    ensures linked { (layout : Layout) (requests : List Request) → IsWithinLimits layout → AreAllowed requests
+        → ThenLinked (S.meaning structure.now) layout requests }
     ensures commits { (layout : Layout) (requests : List Request) → IsWithinLimits layout → AreAllowed requests
         → CommitsBehind (S.meaning structure.now) layout requests }
     ensures behind { (layout : Layout) (requests : List Request) → IsWithinLimits layout → AreAllowed requests

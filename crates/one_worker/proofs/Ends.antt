@@ -13,7 +13,6 @@ use Rattle.machine_states.specs.body_terms.specs.declared.micro.Micro.TheVariant
 use Rattle.machine_states.specs.body_terms.specs.declared.thunk.Thunk.{Thunk}
 use Rattle.agreement_core.specs.section_lines.specs.Line.{IsLine}
 use Rattle.machine_states.specs.table_words.specs.declared.layout.Layout.{Layout}
-use Rattle.machine_states.specs.table_words.specs.declared.spot.Spot.TheVariants as spots
 use Rattle.machine_states.specs.structure_laws.specs.Meaning.{Meaning}
 use Rattle.machine_states.specs.runner_parts.specs.State.{RunState}
 use Rattle.machine_states.specs.runner_steps.specs.Sections.{thunk_of, line_of, setting_of, outcome_or, outcome_of, reply_in}
@@ -27,6 +26,9 @@ use Rattle.runner_facts.specs.machine_facts.specs.machine_invariant.specs.Whole.
 use Rattle.resource_bounds.specs.reached_histories.specs.Laws.{HasHistory}
 use Rattle.one_worker.specs.Lone.{IsAnswerOrSpent}
 use Rattle.one_worker.proofs.Cells as cells_of
+use Rattle.machine_states.specs.runner_parts.specs.block_words.specs.Blocks.{log_in}
+use Rattle.machine_states.specs.runner_steps.specs.Outside.{is_sure_of}
+use Rattle.runner_facts.specs.machine_facts.specs.machine_invariant.proofs.LogSteps.{IsSure}
 use Rattle.one_worker.proofs.State.{in_line, code_is, sound, log_same}
 use Rattle.one_worker.proofs.Goes.{Goes}
 
@@ -59,13 +61,17 @@ module _ (m : Meaning) (l : Layout) (rs : List Request) (s : Sight) (history : H
       let thunk : thunk_of q.opened ≡ t = sym (opened_thunk m l history.beside.agreement s whole.sections r q runs all) ∙ (ap (thunk_in s.word) of ∙ thunk_is) in
       sym (ap (λ (u : Thunk). micro_at (line (m.body u)) q.at) thunk)
 
+  -- the runner is sure of the section's descriptor
+  sure : IsSure s d
+  sure = (r, subst (λ e. is_sure_of (s.part r).guards e ≡ true) of ((whole.slots.tied r).run_sure q runs))
+
   -- what the run has agreed on stands in the log
-  agreed : (k : ℕ) → k < x.slot q.at → (slice_index q.trail k ≡ s.word (spots.LogWord d k)) × (s.word (spots.LogWord d k) ≢ 0)
+  agreed : (k : ℕ) → k < x.slot q.at → (slice_index q.trail k ≡ log_in s.word d k) × (log_in s.word d k ≢ 0)
   agreed k low =
       let behind = subst (λ e. q.at ≤ (history.beside.agreement.section e).edge) of (cells_of.behind m l history.beside s whole r q runs all) in
       let rises = line_is.counted.slot_rises q.at x.edge behind in
       let full = (sound m l rs s history d t used thunk_is).section.in_log.full k (omega (arith, low, rises)) in
-      let same = log_same m l rs s history d t used thunk_is k in (
+      let same = log_same m l rs s history d t used thunk_is sure k in (
         subst (λ e. k < (history.beside.agreement.section e).slot q.at → slice_index q.trail k ≡ (history.beside.agreement.section e).log k) of
             (cells_of.trail_is m l history.beside s whole r q runs all k) low ∙ same,
         λ z. omega (arith, full, same, z),

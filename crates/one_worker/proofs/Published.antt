@@ -25,12 +25,13 @@ use Rattle.resource_bounds.specs.machine_scenes.specs.Shown.{rules_of, section_w
 use Rattle.resource_bounds.specs.machine_scenes.proofs.Shown.{shown_open}
 use Rattle.runner_facts.specs.machine_facts.specs.machine_invariant.specs.Whole.{IsWhole}
 use Rattle.resource_bounds.specs.reached_histories.specs.Laws.{HasHistory}
+use Rattle.machine_states.specs.runner_parts.specs.block_words.specs.Blocks.{log_in}
 use Rattle.one_worker.proofs.State.{not_both, in_line, code_is}
 use Rattle.one_worker.proofs.Goes.{Goes}
 
 module _ (m : Meaning) (l : Layout) (rs : List Request) (per_pair : ℕ) (over : PlannerLawsOver m l per_pair) (s : Sight) (after : HasHistory m l rs s)
     (d : ℕ) (t : Thunk) (used : after.beside.agreement.used d ≡ true) (thunk_is : thunk_in s.word d ≡ t)
-    (undone : s.word (spots.DoneWord d) ≡ 0) (empty : (k : ℕ) → s.word (spots.LogWord d k) ≡ 0)
+    (undone : s.word (spots.DoneWord d) ≡ 0) (empty : (k : ℕ) → log_in s.word d k ≡ 0)
     (publisher : after.beside.publications.runner d ≡ 0)
     (no_run : (r : ℕ) (q : RunState) → (s.part r).run ≡ Some q → q.descriptor ≡ d → ⊥)
     (cell_stands : (i place word : ℕ) → slice_get (s.part 0).reads.walk i ≡ Some (place, word) → place ≢ t.lock → m.is_lock place ≡ false → s.word (spots.Cell place) ≡ word)

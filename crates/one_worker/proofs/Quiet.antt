@@ -44,7 +44,8 @@ use Rattle.resource_bounds.proofs.Words.{Stays, line_stays, opening_stays, outsi
 use Rattle.one_worker.proofs.OneCell.{test_same, other, misses}
 use Rattle.one_worker.specs.Alone.{NoneIsOpen}
 use Rattle.machine_states.specs.runner_steps.specs.Outside.{blocks_from}
-use Rattle.runner_facts.specs.next_steps.proofs.Lines.{in_first_part, log_low}
+use Rattle.runner_facts.specs.machine_facts.specs.machine_invariant.specs.machine_blocks.proofs.Asked as blocks_asked
+use Rattle.runner_facts.specs.machine_facts.specs.machine_invariant.specs.machine_blocks.proofs.Finding.{log_seen}
 
 -- a step of a runner that has this part in this state, which asks this
 module _ (m : Meaning) (l : Layout) (rs : List Request) (g : Beside) (s : Sight) (whole : IsWhole m l g s) (quiet : NoneIsOpen m s)
@@ -159,16 +160,16 @@ module _ (m : Meaning) (l : Layout) (rs : List Request) (g : Beside) (s : Sight)
     -- a commit of a Make comes late
     make_loses : line_ask m l kinds.MakeCommit y.nodes.free y.blocks.free q (next_of m q) ≡ Some x → f x.0 ≡ 0 → ⊥
     make_loses e none =
-        let h = asked_line.make_commit_asked q x (next_of m q) e in
-        let at = next_in_line m q (micros.MakeCommit h.0) refl h.2 in
+        let c = blocks_asked.make_commit_asked q x (next_of m q) e in
+        let k = c.2.log in
+        let at = next_in_line m q (micros.MakeCommit k) refl c.2.step in
         let behind = late _ at refl in
-        let place = in_line.counted.make_log q.at h.0 (code _ at) in
+        let place = in_line.counted.make_log q.at k (code _ at) in
         let more = in_line.counted.slot_commit q.at (ap is_commit (code _ at)) in
         let rises = in_line.counted.slot_rises (suc q.at) section.edge (omega (arith, behind)) in
-        let full = sound.section.in_log.full h.0 (omega (arith, place, more, rises)) in
-        let first = log_low m l g s whole r q runs all q.at h.0 (micros.MakeCommit h.0) at refl in
-        let same : section.log h.0 ≡ 0 = sym (whole.logs.stands.own q.descriptor h.0 first)
-        ∙ (ap f (sym (in_first_part q.descriptor q.links h.0 first)) ∙ (ap (λ (u : Spot × Access). f u.0) h.5 ∙ none)) in
+        let full = sound.section.in_log.full k (omega (arith, place, more, rises)) in
+        let same : section.log k ≡ 0 = sym (log_seen m l whole.logs.chain g.agreement g.epochs s whole.slots whole.logs.stands r q runs k c.2.near)
+        ∙ (ap (λ (u : Spot × Access). f u.0) c.2.is ∙ none) in
         absurd (omega (arith, full, same))
 
     own_slot : (made : Option ℕ) (t : ℕ) → is_slot made t ≡ true → made ≡ Some t

@@ -29,7 +29,6 @@ use Rattle.machine_states.specs.structure_laws.specs.Cells.{IsOutside}
 use Rattle.machine_states.specs.runner_parts.specs.declared.event.EventKind.{EventKind}
 use Rattle.machine_states.specs.runner_parts.specs.declared.event.EventKind.TheVariants as kinds
 use Rattle.machine_states.specs.runner_parts.specs.State.{RunState, PartState}
-use Rattle.machine_states.specs.runner_parts.specs.Tests.{has}
 use Rattle.machine_states.specs.runner_steps.specs.Asks.{opening_ask}
 use Rattle.machine_states.specs.runner_steps.specs.Asks.{ask_by, line_ask}
 use Rattle.machine_states.specs.runner_steps.specs.After.{after_by, line_after}
@@ -38,12 +37,10 @@ use Rattle.machine_states.specs.runner_steps.specs.Sections.{thunk_of, is_open_r
 use Rattle.agreement_core.specs.State.{AgreementState, Section}
 use Rattle.agreement_core.specs.Runs.{RunIsSound}
 use Rattle.agreement_core.proofs.Lines.{hold_lock, hold_inner, hold_once, commit_unlocked, exchange_unlocked}
-use Rattle.machine_states.specs.epoch_core.specs.History.{is_out}
 use Rattle.machine_states.specs.Sight.{Sight, Steps}
 use Rattle.machine_states.proofs.Sights.{unless_gone, joins}
 use Rattle.machine_states.proofs.Steps.{some_same, none_some}
 use Rattle.resource_bounds.specs.machine_epochs.specs.Slots.{thunk_in}
-use Rattle.resource_bounds.specs.machine_epochs.proofs.Places.{free_descriptor}
 use Rattle.resource_bounds.specs.machine_epochs.proofs.RunPlaces.{next_in_line, open_run}
 use Rattle.resource_bounds.specs.machine_scenes.specs.Shown.{rules_of, section_with}
 use Rattle.resource_bounds.specs.machine_scenes.proofs.Shown.{shown_open}
@@ -54,7 +51,10 @@ use Rattle.runner_facts.specs.next_steps.proofs.Parts.{each_part}
 use Rattle.resource_bounds.specs.reached_histories.specs.Laws.{HasHistory}
 use Rattle.runner_facts.proofs.Lines.{commit_unique, rests_behind}
 use Rattle.one_worker.proofs.Lines.{hold_behind}
-use Rattle.runner_facts.proofs.Logs.{log_of, carries, LogStays, line_log, opening_log, outside_log, log_now, log_place}
+use Rattle.machine_states.specs.runner_parts.specs.block_words.specs.Blocks.{log_in}
+use Rattle.runner_facts.specs.machine_facts.specs.machine_invariant.specs.machine_blocks.specs.Writes.{carries_word as carries}
+use Rattle.runner_facts.specs.machine_facts.specs.machine_invariant.proofs.LogSteps.{won_word, kept_word, IsSure, Commits}
+use Rattle.runner_facts.proofs.Logs.{log_of, commit_of, log_place}
 use Rattle.runner_facts.proofs.Runs as runs_of
 use Rattle.runner_facts.proofs.Runs.{nested_kind}
 use Rattle.one_worker.proofs.Cells as cells_of
@@ -65,7 +65,7 @@ module _ (m : Meaning) (l : Layout) (limits : IsWithinLimits l) (rs : List Reque
     (s s' : Sight) (r : ℕ) (kind : EventKind) (st : Steps m l rs s s' r kind) (before : HasHistory m l rs s)
     (d : ℕ) (t : Thunk) (used_d : before.beside.agreement.used d ≡ true) (live_d : before.beside.agreement.live d ≡ true)
     (thunk_is : thunk_in s.word d ≡ t)
-    (log_stands : (k : ℕ) → s.word (spots.LogWord d k) ≢ 0 → s'.word (spots.LogWord d k) ≡ s.word (spots.LogWord d k))
+    (sure : IsSure s d) (log_goes : (k : ℕ) → (log_in s'.word d k ≡ log_in s.word d k) ⊎ Commits m s s' r st.ask d k)
     (done_stands : s.word (spots.DoneWord d) ≢ 0 → s'.word (spots.DoneWord d) ≡ s.word (spots.DoneWord d))
     (alone : (e : ℕ) → before.beside.agreement.used e ≡ true → (before.beside.agreement.section e).done ≡ 0 → e ≡ d)
     (named : (p e : ℕ) → m.is_lock p ≡ true → value_of (s.word (spots.Cell p)) ≡ suc e → e ≡ d)
@@ -129,51 +129,38 @@ module _ (m : Meaning) (l : Layout) (limits : IsWithinLimits l) (rs : List Reque
     pub at : micro_at (line_of m run) run.at ≡ micro
     pub commit : is_commit micro ≡ true
     pub log : log_of micro ≡ k
-    pub carried : carries micro ≡ true → s'.word (spots.LogWord d k) ≡ run.word
+    pub carried : carries micro ≡ true → log_in s'.word d k ≡ run.word
 
-  unfree : has y.descriptors.free d ≡ true → ⊥
-  unfree free = not_both (a.used d) used_d (whole.tied.used d
-      ∙ ap is_out (free_descriptor m l before.beside.epochs s whole.slots r d (whole.tied.within d used_d) free))
+  -- a word that is agreed on stands
+  log_stands : (k : ℕ) → log_in s.word d k ≢ 0 → log_in s'.word d k ≡ log_in s.word d k
+  log_stands k some = ⊎_elim (λ same. same) (λ new. new.now ∙ kept_word (log_in s.word d k) new.proposal some) (log_goes k)
 
-  new_log : (k : ℕ) → f (spots.LogWord d k) ≡ 0 → s'.word (spots.LogWord d k) ≢ 0 → IsNew k
-  new_log k none some = by y.run refl asked
+  new_log : (k : ℕ) → log_in s.word d k ≡ 0 → log_in s'.word d k ≢ 0 → IsNew k
+  new_log k none some = ⊎_elim
+      (λ same. absurd (some (same ∙ none)))
+      (λ c. let of_log = commit_of (next_of m c.run) k c.commits in record {
+        run = c.run;
+        runs = c.runs;
+        opened = open_run c.run c.open_run;
+        of = c.of_section;
+        micro = next_of m c.run;
+        at = commit_at c.run (next_of m c.run) refl of_log.0;
+        commit = of_log.0;
+        log = of_log.1;
+        carried = λ carries. c.now ∙ (won_word (log_in s.word d k) c.proposal none ∙ c.carried carries);
+      })
+      (log_goes k)
     where
-      stays : LogStays f d k x → IsNew k
-      stays same = absurd (some (word_now (spots.LogWord d k) ∙ (same ∙ none)))
-
-      in_run : (q : RunState) → y.run ≡ Some q → (b : Bool) → is_open_run q ≡ b
-          → (if b then line_ask m l kind y.nodes.free y.blocks.free q (next_of m q) else opening_ask kind q) ≡ Some x → IsNew k
-      in_run q runs false opened e = stays (opening_log f d k m l q x kind e)
-      in_run q runs true opened e = ⊎_elim stays
-          (λ c. record {
-            run = q;
-            runs = runs;
-            opened = open_run q opened;
-            of = c.of;
-            micro = next_of m q;
-            at = commit_at q (next_of m q) refl c.commit;
-            commit = c.commit;
-            log = c.log;
-            carried = λ carries. word_now (spots.LogWord d k)
-                ∙ (subst (λ (u : Spot × Access). put f u.0 (written u.1 (f u.0)) (spots.LogWord d k) ≡ c.proposal) c.is (log_now f d k c.proposal none)
-                ∙ c.carried carries);
-          })
-          (line_log f d k m l q x kind y.nodes.free y.blocks.free (next_of m q) e)
-        where
-          commit_at : (q : RunState) (micro : Micro) → next_of m q ≡ micro → is_commit micro ≡ true → micro_at (line_of m q) q.at ≡ micro
-          commit_at q (micros.Commit p k) e c = next_in_line m q (micros.Commit p k) refl e
-          commit_at q (micros.NestedCommit p k) e c = next_in_line m q (micros.NestedCommit p k) refl e
-          commit_at q (micros.OutcomeCommit p k) e c = next_in_line m q (micros.OutcomeCommit p k) refl e
-          commit_at q (micros.MakeCommit k) e c = next_in_line m q (micros.MakeCommit k) refl e
-          commit_at q (micros.RetireCommit u k) e c = next_in_line m q (micros.RetireCommit u k) refl e
-          commit_at q micro e c = absurd (let z = c in cc)
-
-      by : (o : Option RunState) → y.run ≡ o → ask_by m l rs r kind y o ≡ Some x → IsNew k
-      by None is e = stays (outside_log f d k m l rs r y x unfree kind e)
-      by (Some q) is e = in_run q is (is_open_run q) refl e
+      commit_at : (q : RunState) (micro : Micro) → next_of m q ≡ micro → is_commit micro ≡ true → micro_at (line_of m q) q.at ≡ micro
+      commit_at q (micros.Commit p k) e c = next_in_line m q (micros.Commit p k) refl e
+      commit_at q (micros.NestedCommit p k) e c = next_in_line m q (micros.NestedCommit p k) refl e
+      commit_at q (micros.OutcomeCommit p k) e c = next_in_line m q (micros.OutcomeCommit p k) refl e
+      commit_at q (micros.MakeCommit k) e c = next_in_line m q (micros.MakeCommit k) refl e
+      commit_at q (micros.RetireCommit u k) e c = next_in_line m q (micros.RetireCommit u k) refl e
+      commit_at q micro e c = absurd (let z = c in cc)
 
   -- what is known of a run that agrees on a new word: it is the furthest one, and the section isn't done
-  module _ (k : ℕ) (none : f (spots.LogWord d k) ≡ 0) (new : IsNew k) where
+  module _ (k : ℕ) (none : log_in s.word d k ≡ 0) (new : IsNew k) where
     abbrev q : RunState
     q = new.run
 
@@ -187,7 +174,7 @@ module _ (m : Meaning) (l : Layout) (limits : IsWithinLimits l) (rs : List Reque
     place = sym new.log ∙ log_place m.is_lock l.version_max sec.lock sec.code sec.slot line_of_section q.at new.micro code_q new.commit
 
     edge : q.at ≡ sec.edge
-    edge = ⊎_elim (λ less. absurd (passed_some m l rs s before d t used_d thunk_is q.at k new.micro code_q new.commit new.log less none))
+    edge = ⊎_elim (λ less. absurd (passed_some m l rs s before d t used_d thunk_is sure q.at k new.micro code_q new.commit new.log less none))
         (λ ge. let le = behind_q in omega (arith, ge, le)) (cases_lt q.at sec.edge)
 
     undone : IsUndone m s d t
@@ -215,10 +202,10 @@ module _ (m : Meaning) (l : Layout) (limits : IsWithinLimits l) (rs : List Reque
   cell_same : (p : ℕ) → a.shared.cells p ≡ f (spots.Cell p)
   cell_same p = whole.sections.words.cells p
 
-  still : (k : ℕ) → f (spots.LogWord d k) ≢ 0 → (w : ℕ) → f (spots.LogWord d k) ≡ w → s'.word (spots.LogWord d k) ≡ w
+  still : (k : ℕ) → log_in s.word d k ≢ 0 → (w : ℕ) → log_in s.word d k ≡ w → log_in s'.word d k ≡ w
   still k some w e = log_stands k some ∙ e
 
-  wanted' : (i p k w : ℕ) → cd i ≡ micros.CheckWord p k w → s'.word (spots.LogWord d k) ≢ 0 → s'.word (spots.LogWord d k) ≡ w
+  wanted' : (i p k w : ℕ) → cd i ≡ micros.CheckWord p k w → log_in s'.word d k ≢ 0 → log_in s'.word d k ≡ w
   wanted' i p k w e some = ⊎_elim
       (λ none. let new = new_log k none some in
       let loaded = line_of_section.resolved.word_loaded i p k w (in_section i _ e) in
@@ -228,9 +215,9 @@ module _ (m : Meaning) (l : Layout) (limits : IsWithinLimits l) (rs : List Reque
       let cell : f (spots.Cell p) ≡ w = ⊎_elim (λ same. same) (λ agreed. absurd (agreed none)) (old.wants (undone k none new) i p k w e) in
       new.carried (ap carries at.1) ∙ (sym word.word ∙ (standing ∙ (cell_same p ∙ cell))))
       (λ agreed. still k agreed w (old.wanted i p k w e agreed))
-      (by_zero (f (spots.LogWord d k)))
+      (by_zero (log_in s.word d k))
 
-  free' : (i p k w : ℕ) → cd i ≡ micros.CheckFree p k w → s'.word (spots.LogWord d k) ≢ 0 → s'.word (spots.LogWord d k) ≡ w
+  free' : (i p k w : ℕ) → cd i ≡ micros.CheckFree p k w → log_in s'.word d k ≢ 0 → log_in s'.word d k ≡ w
   free' i p k w e some = ⊎_elim
       (λ none. let new = new_log k none some in
       let loaded = line_of_section.ordered.free_before i p k w (in_section i _ e) in
@@ -240,7 +227,7 @@ module _ (m : Meaning) (l : Layout) (limits : IsWithinLimits l) (rs : List Reque
       ∙ old.loads r new.run p k w new.runs new.of new.opened (line_here new.run.at _ new.at ∙ at.1)
       (ap cd (ap suc at.0 ∙ sym loaded.1) ∙ e) none)
       (λ agreed. still k agreed w (old.free i p k w e agreed))
-      (by_zero (f (spots.LogWord d k)))
+      (by_zero (log_in s.word d k))
 
   link : suc d < 2 ^ 32
   link = (sound m l rs s before d t used_d thunk_is).published.link
@@ -252,7 +239,7 @@ module _ (m : Meaning) (l : Layout) (limits : IsWithinLimits l) (rs : List Reque
       let v = ap version_of (cell_same p ∙ same) in omega (arith, past, v)))
       (λ held. held) (old.takes undone j p w e)
 
-  held' : (i p k w : ℕ) → cd i ≡ micros.CheckHeld p k w → s'.word (spots.LogWord d k) ≢ 0 → s'.word (spots.LogWord d k) ≡ held_word d w
+  held' : (i p k w : ℕ) → cd i ≡ micros.CheckHeld p k w → log_in s'.word d k ≢ 0 → log_in s'.word d k ≡ held_word d w
   held' i p k w e some = ⊎_elim
       (λ none. let new = new_log k none some in
       let taken = line_of_section.ordered.held_before i p k w (in_section i _ e) in
@@ -263,7 +250,7 @@ module _ (m : Meaning) (l : Layout) (limits : IsWithinLimits l) (rs : List Reque
       let named_own = (run_here k none new).in_word.outcome_named p k (code_run k none new _ at.1) (ap value_of (cell_same p ∙ cell) ∙ held_value d w link) in
       new.carried (ap carries at.1) ∙ (sym word.word ∙ (named_own ∙ (cell_same p ∙ cell))))
       (λ agreed. still k agreed (held_word d w) (old.held i p k w e agreed))
-      (by_zero (f (spots.LogWord d k)))
+      (by_zero (log_in s.word d k))
 
   -- what a step does to a cell
   effect : (open_yet : IsUndone m s d t) (p : ℕ) → cells_of.Leaves m l rs before.beside s whole d (undone_section open_yet) alone named r kind x p no_hold
@@ -275,7 +262,7 @@ module _ (m : Meaning) (l : Layout) (limits : IsWithinLimits l) (rs : List Reque
   behind_own : (q : RunState) → y.run ≡ Some q → length q.opened ≡ 13 → q.descriptor ≡ d → q.at ≤ sec.edge
   behind_own q runs all of = subst (λ e. q.at ≤ (a.section e).edge) of (cells_of.behind m l before.beside s whole r q runs all)
 
-  wants' : IsUndone m s' d t → (i p k w : ℕ) → cd i ≡ micros.CheckWord p k w → (s'.word (spots.Cell p) ≡ w) ⊎ (s'.word (spots.LogWord d k) ≢ 0)
+  wants' : IsUndone m s' d t → (i p k w : ℕ) → cd i ≡ micros.CheckWord p k w → (s'.word (spots.Cell p) ≡ w) ⊎ (log_in s'.word d k ≢ 0)
   wants' later i p k w e = ⊎_elim
       (λ same. ⊎_elim
       (λ stays. inl (word_now (spots.Cell p) ∙ (stays ∙ same)))
@@ -312,7 +299,7 @@ module _ (m : Meaning) (l : Layout) (limits : IsWithinLimits l) (rs : List Reque
           (whole.kept.lawful.sound.published d y shown).outside read.0 p w read.1
 
       stored : (own : cells_of.Own m l rs before.beside s whole d (undone_section open_yet) alone named r kind x p no_hold)
-          → (k1 : ℕ) × (v : Source) × (micro_at (line_of m own.run) own.run.at ≡ micros.ExchangeCell p k1 v) → s'.word (spots.LogWord d k) ≢ 0
+          → (k1 : ℕ) × (v : Source) × (micro_at (line_of m own.run) own.run.at ≡ micros.ExchangeCell p k1 v) → log_in s'.word d k ≢ 0
       stored own store z =
           let at = in_own own.run own.runs own.opened own.of _ store.2 in
           let le = behind_own own.run own.runs own.opened own.of in
@@ -321,7 +308,7 @@ module _ (m : Meaning) (l : Layout) (limits : IsWithinLimits l) (rs : List Reque
           let two = line_of_section.ordered.commit_before loaded.0 p k loaded.2 in
           let same = line_of_section.placed.load_once one.0 two.0 p store.0 k one.2 two.2 in
           let low : loaded.0 < sec.edge = (let here = first.1 in let a1 = one.1 in let a2 = two.1 in omega (arith, le, here, a1, a2, same)) in
-          let some = passed_some m l rs s before d t used_d thunk_is loaded.0 k (micros.Commit p k) loaded.2 refl refl low in
+          let some = passed_some m l rs s before d t used_d thunk_is sure loaded.0 k (micros.Commit p k) loaded.2 refl refl low in
           some (sym (log_stands k some) ∙ z)
 
   takes' : IsUndone m s' d t → (i p w : ℕ) → cd i ≡ micros.NestedHold p w → (s'.word (spots.Cell p) ≡ w) ⊎ (s'.word (spots.Cell p) ≡ held_word d w)
@@ -375,7 +362,7 @@ module _ (m : Meaning) (l : Layout) (limits : IsWithinLimits l) (rs : List Reque
   -- the runs after the step
   abbrev Loaded : ℕ → Option RunState → Type 0
   Loaded i o = (q : RunState) (p k w : ℕ) → o ≡ Some q → q.descriptor ≡ d → length q.opened ≡ 13 → cd q.at ≡ micros.NestedCommit p k
-      → cd (suc q.at) ≡ micros.CheckFree p k w → f (spots.LogWord d k) ≡ 0 → q.word ≡ w
+      → cd (suc q.at) ≡ micros.CheckFree p k w → log_in s.word d k ≡ 0 → q.word ≡ w
 
   own_loaded : Loaded r (after_by m l kind y y.run found).run
   own_loaded = by y.run refl asked
@@ -429,7 +416,7 @@ module _ (m : Meaning) (l : Layout) (limits : IsWithinLimits l) (rs : List Reque
                       (λ outer. hold_inner (rules_of m l) sec.lock sec.code sec.slot line_of_section (suc (suc q'.at)) p w (in_section _ _ hold) outer.0)
                       (λ nested.
                       let same = hold_once (rules_of m l) sec.lock sec.code sec.slot line_of_section nested.0 (suc (suc q'.at)) p nested.1 w nested.3 (in_section _ _ hold) in
-                      passed_some m l rs s before d t used_d thunk_is q'.at k (micros.NestedCommit p k) (in_section q'.at _ at) refl refl
+                      passed_some m l rs s before d t used_d thunk_is sure q'.at k (micros.NestedCommit p k) (in_section q'.at _ at) refl refl
                       (let low = nested.2 in omega (arith, low, same)) none)
                       with_it))
                       (old.takes open_yet (suc (suc q'.at)) p w hold)
@@ -442,7 +429,7 @@ module _ (m : Meaning) (l : Layout) (limits : IsWithinLimits l) (rs : List Reque
                           let less = done_passed m l rs s before d t used_d thunk_is some q.at (micros.NestedLoad p k) load_at refl le in
                           let more = done_passed m l rs s before d t used_d thunk_is some q'.at (micros.NestedCommit p k) (in_section q'.at _ at) refl
                           (omega (arith, less, place')) in
-                          passed_some m l rs s before d t used_d thunk_is q'.at k (micros.NestedCommit p k) (in_section q'.at _ at) refl refl more none))
+                          passed_some m l rs s before d t used_d thunk_is sure q'.at k (micros.NestedCommit p k) (in_section q'.at _ at) refl refl more none))
                           (by_zero (s.word (spots.DoneWord d)))
 
       in_opening : (q : RunState) → y.run ≡ Some q → opening_ask kind q ≡ Some x → Loaded r (opened_more y q found).run
@@ -471,9 +458,9 @@ module _ (m : Meaning) (l : Layout) (limits : IsWithinLimits l) (rs : List Reque
       (λ i ne q p k w is of all at next none. old.loads i q p k w is of all at next none))
 
   loads' : (i : ℕ) (q : RunState) (p k w : ℕ) → (s'.part i).run ≡ Some q → q.descriptor ≡ d → length q.opened ≡ 13 → cd q.at ≡ micros.NestedCommit p k
-      → cd (suc q.at) ≡ micros.CheckFree p k w → s'.word (spots.LogWord d k) ≡ 0 → q.word ≡ w
+      → cd (suc q.at) ≡ micros.CheckFree p k w → log_in s'.word d k ≡ 0 → q.word ≡ w
   loads' i q p k w is of all at next none = all_loaded i q p k w is of all at next
-      (⊎_elim (λ z. z) (λ some. absurd (some (sym (log_stands k some) ∙ none))) (by_zero (f (spots.LogWord d k))))
+      (⊎_elim (λ z. z) (λ some. absurd (some (sym (log_stands k some) ∙ none))) (by_zero (log_in s.word d k)))
 
   pub kept : Goes m s' d t
   kept = record { wants = wants'; takes = takes'; loads = loads'; wanted = wanted'; free = free'; held = held' }

@@ -55,7 +55,7 @@ use Rattle.runner_facts.specs.machine_facts.specs.After.{AreFactsOfStep}
 use Rattle.runner_facts.specs.machine_facts.proofs.Following.{facts_after, step_facts_after}
 use Rattle.runner_facts.specs.machine_facts.specs.machine_invariant.specs.After.{AreAllowed}
 use Rattle.runner_facts.specs.machine_facts.specs.machine_invariant.specs.Whole.{IsWhole}
-use Rattle.resource_bounds.specs.machine_epochs.proofs.Prepared.{done_is, log_is}
+use Rattle.resource_bounds.specs.machine_epochs.proofs.Prepared.{done_is, log_is, link_is}
 use Rattle.resource_bounds.specs.reached_histories.specs.Kept.{link_of}
 use Rattle.runner_facts.specs.next_steps.proofs.Parts.{each_part}
 use Rattle.resource_bounds.specs.reached_histories.specs.Laws.{HasHistory}
@@ -72,7 +72,10 @@ use Rattle.one_worker.proofs.Goes.{Goes}
 use Rattle.one_worker.proofs.SectionsKept.{kept}
 use Rattle.one_worker.proofs.Published.{published}
 use Rattle.one_worker.proofs.Ends.{ends_so}
-use Rattle.machine_states.specs.table_words.specs.Places.{part_words}
+use Rattle.machine_states.specs.runner_parts.specs.block_words.specs.Blocks.{log_in, HasBlocks}
+use Rattle.machine_states.specs.runner_parts.specs.block_words.proofs.Parts.{alone as without_blocks}
+use Rattle.machine_states.specs.runner_parts.specs.block_words.proofs.Reading.{read_log}
+use Rattle.runner_facts.specs.machine_facts.specs.machine_invariant.proofs.LogSteps.{IsSure, Commits, reached_log_goes}
 
 -- what a list has it has with one more, and what it has then at a place below its end it had
 get_kept : {A : Type 0} (xs : List A) (f y : A) (i : ℕ) → slice_get xs i ≡ Some y → slice_get (xs ++ f ∷ []) i ≡ Some y
@@ -145,7 +148,9 @@ module _ (m : Meaning) (l : Layout) (limits : IsWithinLimits l) (rs : List Reque
     (st : Steps m l rs (sight m l rs w) (sight m l rs v) e.runner e.kind) (before : HasHistory m l rs (sight m l rs w))
     (after : HasHistory m l rs (sight m l rs v)) (one : l.runners ≡ 1) (read : Holds m (sight m l rs w)) (read' : Holds m (sight m l rs v))
     (old : Go m (sight m l rs w)) (x' : Published) (is' : ((sight m l rs v).part 0).published ≡ Some x')
-    (first' : IsLastReading ((sight m l rs v).part 0).reads.cells x'.walked x'.thunk.lock x'.thunk.word) where
+    (first' : IsLastReading ((sight m l rs v).part 0).reads.cells x'.walked x'.thunk.lock x'.thunk.word)
+    (log_goes : (d k : ℕ) → IsSure (sight m l rs w) d → IsSure (sight m l rs v) d
+    → (log_in (sight m l rs v).word d k ≡ log_in (sight m l rs w).word d k) ⊎ Commits m (sight m l rs w) (sight m l rs v) e.runner st.ask d k) where
   abbrev s : Sight
   s = sight m l rs w
 
@@ -219,11 +224,14 @@ module _ (m : Meaning) (l : Layout) (limits : IsWithinLimits l) (rs : List Reque
       kept m l limits rs (per_pair, planner.over l limits) s s' r e.kind st before x'.descriptor x'.thunk
       (used_there m l rs s before one x' had.is) (live_there m l rs s before one x' had.is)
       (facts.there.sound.sections.in_published.thunk 0 x' had.is)
-      (λ k agreed. facts.leads.words.log x'.descriptor k (facts.there.sound.sections.in_published.used 0 x' had.is) agreed)
+      sure (λ k. log_goes x'.descriptor k sure (0, (after.whole.slots.tied 0).published_sure x' is'))
       (λ done. facts.leads.words.done x'.descriptor (facts.there.sound.sections.in_published.used 0 x' had.is) done)
       (alone m l rs s before one x' had.is) (named m l rs s before one x' had.is)
       (λ t d hold none won. none_some x' (sym had.is ∙ (ap (λ i. (s.part i).published) (sym (is_first t d hold none won)) ∙ (asked_hold t d hold none won).unpublished)))
       (old x' had.is (last_before (s.part 0).reads.cells (s'.part 0).reads.cells had.grows x'.walked x'.thunk.lock x'.thunk.word (read.noted x' had.is).1 first'))
+    where
+      sure : IsSure s x'.descriptor
+      sure = (0, (before.whole.slots.tied 0).published_sure x' had.is)
 
   -- a section that the step publishes
   module _ (new : Published' m l (s.part 0) found e.kind (s'.part 0).reads (s'.part 0).published x') (at : 0 ≡ r) where
@@ -385,12 +393,17 @@ module _ (m : Meaning) (l : Layout) (limits : IsWithinLimits l) (rs : List Reque
               idle = subst (λ (n : NodesState). 1 ≤ idle_times n idle.slot) (sym (same_part idle.runner).1) idle.idle;
             }
 
+    -- the log is empty, and has no block
+    begun : HasBlocks (λ i. 0) s'.word d []
+    begun = without_blocks (λ i. 0) s'.word d (λ i. refl)
+        (λ i low. other_word (spots.LogWord d i) (λ p same lock. absurd (let z = same in cc)) ∙ log_is m l before.beside.epochs s whole_before.slots r t d ha.free ha.prepared i low)
+        (other_word (spots.LinkWord d) (λ p same lock. absurd (let z = same in cc)) ∙ link_is m l before.beside.epochs s whole_before.slots r t d ha.free ha.prepared)
+
     goes_new : Goes m s' x'.descriptor x'.thunk
     goes_new = subst (λ n. Goes m s' n x'.thunk) (sym descriptor_is) (subst (λ u. Goes m s' d u) (sym thunk_of_it)
         (published m l rs per_pair (planner.over l limits) s' after d t used' thunk_there
         (other_word (spots.DoneWord d) (λ p same lock. absurd (let z = same in cc)) ∙ done_is m l before.beside.epochs s whole_before.slots r t d ha.free ha.prepared)
-        (λ k. other_word (spots.LogWord d k) (λ p same lock. absurd (let z = same in cc)) ∙ ⊎_elim
-        (λ low. log_is m l before.beside.epochs s whole_before.slots r t d ha.free ha.prepared k low) (λ high. whole_before.logs.beyond d k high) (cases_lt k part_words))
+        (λ k. read_log (λ i. 0) s'.word d [] begun k (omega arith))
         publisher no_run cell_stands lock_stands))
 
   goes_step : Goes m s' x'.descriptor x'.thunk
@@ -415,13 +428,14 @@ module _ (m : Meaning) (laws : Laws m) (l : Layout) (limits : IsWithinLimits l) 
     step_has w v e old happens =
         let reached = more_reached m l rs w v e old.reached happens in
         let all = reached_all m l rs w old.reached in
+        let st = (happens_steps m l rs w v e (record { words = le_of_eq (sym all.words); parts = all.parts }) happens).0 in
         record {
           reached = reached;
           has = λ x is first. goes_step m l limits rs per_pair planner w v e
               (step_facts_after m laws l rs old.reached.events w limits allowed old.reached.after e v happens)
-              (happens_steps m l rs w v e (record { words = le_of_eq (sym all.words); parts = all.parts }) happens).0
-              (reached_have m laws l rs limits allowed w old.reached) (reached_have m laws l rs limits allowed v reached) one
-              (holds m laws l limits rs allowed one w old.reached) (holds m laws l limits rs allowed one v reached) old.has x is first;
+              st (reached_have m laws l rs limits allowed w old.reached) (reached_have m laws l rs limits allowed v reached) one
+              (holds m laws l limits rs allowed one w old.reached) (holds m laws l limits rs allowed one v reached) old.has x is first
+              (λ d k before behind. reached_log_goes m laws l limits rs allowed w v e.runner e.kind old.reached st d k before behind);
         }
 
     go : (w : World) → Reached m l rs w → Go m (sight m l rs w)

@@ -31,7 +31,9 @@ use Rattle.resource_bounds.specs.machine_scenes.proofs.JointSteps.{hand_status}
 use Rattle.runner_facts.specs.machine_facts.specs.machine_invariant.specs.Whole.{states_of, IsWhole}
 use Rattle.resource_bounds.specs.reached_histories.specs.Laws.{HasHistory}
 use Rattle.runner_facts.proofs.Logs.{log_of, log_place}
-use Rattle.runner_facts.specs.machine_facts.specs.machine_invariant.proofs.Holding.{own_words}
+use Rattle.machine_states.specs.runner_parts.specs.block_words.specs.Blocks.{log_in}
+use Rattle.runner_facts.specs.machine_facts.specs.machine_invariant.specs.machine_blocks.proofs.Holding.{log_read}
+use Rattle.runner_facts.specs.machine_facts.specs.machine_invariant.proofs.LogSteps.{IsSure}
 
 pub event_commit : (micro : Micro) → is_commit micro ≡ true → is_event micro ≡ true
 event_commit micro e = grind arith
@@ -79,17 +81,17 @@ module _ (m : Meaning) (l : Layout) (rs : List Request) (s : Sight) (before : Ha
   pub code_back : (i : ℕ) (micro : Micro) → x.code i ≡ micro → micro_at (line (m.body t)) i ≡ micro
   code_back i micro e = sym (code_is i _ refl) ∙ e
 
-  pub log_same : (k : ℕ) → x.log k ≡ s.word (spots.LogWord d k)
-  log_same k = sym (own_words m l whole.logs d k)
+  pub log_same : IsSure s d → (k : ℕ) → x.log k ≡ log_in s.word d k
+  log_same sure k = sym (log_read m l whole.logs sure.0 d sure.1 k)
 
   -- a commit that is passed is agreed
-  pub passed_some : (i k : ℕ) (micro : Micro) → x.code i ≡ micro → is_commit micro ≡ true → log_of micro ≡ k → i < x.edge → s.word (spots.LogWord d k) ≢ 0
-  passed_some i k micro e commit place below z =
+  pub passed_some : IsSure s d → (i k : ℕ) (micro : Micro) → x.code i ≡ micro → is_commit micro ≡ true → log_of micro ≡ k → i < x.edge → log_in s.word d k ≢ 0
+  passed_some sure i k micro e commit place below z =
       let at = log_place m.is_lock l.version_max x.lock x.code x.slot in_line i micro e commit in
       let more = in_line.counted.slot_commit i (ap is_commit e ∙ commit) in
       let rises = in_line.counted.slot_rises (suc i) x.edge (omega (arith, below)) in
       let full = sound.section.in_log.full k (omega (arith, at, place, more, rises)) in
-      let same = log_same k in omega (arith, full, same, z)
+      let same = log_same sure k in omega (arith, full, same, z)
 
   -- once it is done, its runs are past each step that they have come to
   pub done_passed : s.word (spots.DoneWord d) ≢ 0 → (i : ℕ) (micro : Micro) → x.code i ≡ micro → is_event micro ≡ true → i ≤ x.edge → i < x.edge

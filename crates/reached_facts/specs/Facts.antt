@@ -12,7 +12,7 @@ use Rattle.version_words.specs.machine_invariant.specs.After.{AreAllowed}
 use Rattle.version_words.specs.machine_invariant.specs.Lengths.{ListsAreShort}
 use Rattle.request_facts.specs.reached_histories.specs.Laws.{HasHistory}
 use Rattle.request_facts.specs.Laws.{CallersStand}
-use Rattle.keeper_facts.specs.runner_facts.specs.Facts.{LimboIsDone, DescriptorsAreKept, WornAreWorn}
+use Rattle.keeper_facts.specs.runner_facts.specs.Facts.{BlocksAreEnough, BlocksAreKept, DescriptorsAreKept, LimboIsDone, WornAreWorn}
 use Rattle.keeper_facts.specs.runner_facts.specs.Own.{OwnStand}
 use Rattle.keeper_facts.specs.runner_facts.specs.Worn.{HasNoRepeats}
 use Rattle.lock_words.specs.Spent.{SpentStand}
@@ -34,6 +34,10 @@ module _ (m : Meaning) (layout : Layout) (requests : List Request) where
     pub descriptors : DescriptorsAreKept layout s
     pub own : OwnStand layout s
     pub limbo : LimboIsDone s
+    -- its blocks are as many as the layout gives it, and a runner that has swept has as many free ones as an attempt may
+    -- want
+    pub blocks : BlocksAreKept layout s
+    pub blocks_enough : BlocksAreEnough layout s
     -- slots that a runner holds worn are worn, and each stands once in its list
     pub worn : WornAreWorn m layout s
     pub worn_once : HasNoRepeats s

@@ -3,8 +3,8 @@ ghost use Rattle.reached_facts.specs.Facts.{KeepsFacts};
 
 use keeper_facts::what_the_keeper_saw_tells;
 use lock_words::runner_facts::{
-    descriptors_are_kept, limbo_is_done, own_descriptors_stand, worn_lists_have_no_repeats,
-    worn_slots_are_worn,
+    blocks_are_kept, descriptors_are_kept, limbo_is_done, own_descriptors_stand,
+    worn_lists_have_no_repeats, worn_slots_are_worn,
 };
 use lock_words::spent_words_stand;
 use machine_states::structure_laws::Structure;
@@ -29,6 +29,7 @@ pub fn table_keeps_its_facts<S: Structure>(table: &FlockTable<S>)
     descriptors_are_kept(structure);
     own_descriptors_stand(structure);
     limbo_is_done(structure);
+    blocks_are_kept(structure);
     worn_slots_are_worn(structure);
     worn_lists_have_no_repeats(structure);
     spent_words_stand(structure);

@@ -1,8 +1,7 @@
 -- What Makes used up is kept along the machine's steps.
-use Rattle.std.specs.Prelude.{◌⊎◌, count_by, true, if◌then◌else◌}
-use Rattle.std.proofs.Common.{◌≡◌, ◌≢◌, ℕ, zero, suc, ◌+◌, ◌<◌, ◌≤◌, List, length, refl, sym, ap, ◌∙◌, subst, ⊎_elim, inl, inr, arith, Some}
+use Rattle.std.specs.Prelude.{◌⊎◌, count_by, true, false, if◌then◌else◌}
+use Rattle.std.proofs.Common.{◌≡◌, ◌≢◌, ℕ, zero, suc, ◌+◌, ◌<◌, ◌≤◌, List, length, refl, sym, ap, ◌∙◌, subst, ⊎_elim, inl, inr, arith, Option, Some, None}
 use Rattle.std.proofs.lemmas.Bool.{cases_eq}
-use Rattle.machine_states.specs.epoch_core.specs.small_lemmas.proofs.Numbers.{chosen_here as one_here}
 use Rattle.machine_states.specs.map_history.specs.declared.op.Request.{Request}
 use Rattle.machine_states.specs.map_history.specs.Words.{adds_by}
 use Rattle.machine_states.specs.map_history.proofs.Words.{adds_some}
@@ -29,8 +28,8 @@ use Rattle.machine_states.specs.runner_parts.specs.declared.event.EventKind.TheV
 use Rattle.machine_states.specs.runner_parts.specs.State.{RunState, PartState}
 use Rattle.machine_states.specs.runner_steps.specs.Asks.{opening_ask}
 use Rattle.machine_states.specs.runner_steps.specs.Asks.{ask_by, line_ask}
-use Rattle.machine_states.specs.runner_steps.specs.After.{after_by}
-use Rattle.machine_states.specs.runner_steps.specs.Sections.{is_open_run, next_of}
+use Rattle.machine_states.specs.runner_steps.specs.After.{line_after, after_by}
+use Rattle.machine_states.specs.runner_steps.specs.Sections.{is_open_run, next_of, is_beyond}
 use Rattle.machine_states.specs.World.{World}
 use Rattle.machine_states.specs.Reached.{Reached}
 use Rattle.machine_states.specs.Sight.{Sight, sight, Steps}
@@ -38,7 +37,7 @@ use Rattle.machine_states.proofs.Sights.{unless_gone, joins}
 use Rattle.machine_states.proofs.Steps.{some_same}
 use Rattle.machine_states.proofs.Updates.{upd_here, upd_else}
 use Rattle.machine_epochs.specs.Slots.{thunk_in}
-use Rattle.machine_epochs.proofs.InsideAsked.{make_commit_asked}
+use Rattle.reached_histories.specs.machine_facts.specs.machine_invariant.specs.machine_blocks.proofs.Asked.{make_commit_asked}
 use Rattle.machine_epochs.proofs.RunPlaces.{next_in_line, open_run}
 use Rattle.reached_histories.specs.machine_facts.specs.machine_agreement.proofs.LineAsked as asked_line
 use Rattle.reached_histories.specs.machine_facts.specs.machine_agreement.proofs.RunPlaces.{run_here, used_here, opened_thunk}
@@ -62,8 +61,15 @@ use Rattle.resource_bounds.proofs.Entries.{Stays, WinsMake, Ends, Gives, Leaves}
 use Rattle.resource_bounds.proofs.Above.{leaves_own, above_own, above_before}
 use Rattle.resource_bounds.proofs.Releases.{released_done}
 use Rattle.resource_bounds.proofs.Sections.{reply_new, publisher, unreplied, answers_new}
-use Rattle.next_steps.proofs.Lines.{in_first_part, log_low}
-use Rattle.reached_histories.specs.machine_facts.specs.machine_invariant.proofs.Holding.{own_words}
+use Rattle.machine_states.specs.body_terms.specs.Run.{written_once}
+use Rattle.machine_states.specs.table_words.proofs.Seen.{put_here}
+use Rattle.machine_states.specs.runner_parts.specs.block_words.specs.Blocks.{log_spot, log_in}
+use Rattle.machine_states.specs.runner_steps.specs.Outside.{is_sure_of}
+use Rattle.machine_states.specs.runner_steps.specs.AfterInRun as inside
+use Rattle.machine_states.proofs.Reached.{more_reached}
+use Rattle.reached_histories.specs.machine_facts.specs.machine_invariant.specs.machine_blocks.proofs.Finding.{log_seen}
+use Rattle.reached_histories.specs.machine_facts.specs.machine_invariant.specs.machine_blocks.proofs.Holding.{log_read}
+use Rattle.reached_histories.specs.machine_facts.specs.machine_invariant.proofs.LogSteps.{kept_word, IsSure, reached_log_goes}
 
 order : (a b : ℕ) → (a < b) ⊎ (b ≤ a)
 order a b = search arith
@@ -82,7 +88,7 @@ module _ (m : Meaning) (l : Layout) (rs : List Request) where
     pub at : section.descriptor ≡ descriptor
     pub of_thunk : section.thunk ≡ thunk
     pub request : thunk.request ≡ q
-    pub many : n ≤ makes_in (λ k. s.word (spots.LogWord descriptor k)) (line (m.body thunk))
+    pub many : n ≤ makes_in (λ k. log_in s.word descriptor k) (line (m.body thunk))
     pub adds : (j reply : ℕ) → HasStep m thunk j (Answer reply) → adds_by reply ≡ true
 
   -- so many Makes were won for this request at most
@@ -118,7 +124,10 @@ module _ (m : Meaning) (l : Layout) (rs : List Request) (s : Sight) (stands : Ha
       d = y.section.descriptor
 
       log : ℕ → ℕ
-      log k = s.word (spots.LogWord d k)
+      log k = log_in s.word d k
+
+      sure : is_sure_of (s.part (worker_of m l rs q)).guards d ≡ true
+      sure = (stands.whole.slots.tied (worker_of m l rs q)).published_sure y.section y.published
 
       used : stands.beside.agreement.used d ≡ true
       used = used_there (worker_of m l rs q) y.section y.published
@@ -128,23 +137,17 @@ module _ (m : Meaning) (l : Layout) (rs : List Request) (s : Sight) (stands : Ha
 
       most : suc n ≤ makes_in log (line (m.body (thunk_in s.word d)))
       most = subst (λ (t : Thunk). suc n ≤ makes_in log (line (m.body t))) (sym same)
-          (subst (λ e. suc n ≤ makes_in (λ k. s.word (spots.LogWord e k)) (line (m.body y.thunk))) (sym y.at) y.many)
+          (subst (λ e. suc n ≤ makes_in (λ k. log_in s.word e k) (line (m.body y.thunk))) (sym y.at) y.many)
 
       some : (i k : ℕ) × (micro_at (line (m.body (thunk_in s.word d))) i ≡ micros.MakeCommit k) × (log k ≢ 0)
       some = some_make log (line (m.body (thunk_in s.word d))) (omega (arith, most))
 
       reply : adds_by (s.word (spots.Reply (thunk_in s.word d).request)) ≡ true
-      reply = reply_new m l rs s stands d used some.0 some.1 some.2 some.3 done map
+      reply = reply_new m l rs s stands d used some.0 some.1 some.2 (λ z. some.3 (log_read m l stands.whole.logs (worker_of m l rs q) d sure some.1 ∙ z)) done map
           (λ j n is. y.adds j n (subst (λ t. HasStep m t j (Answer n)) same is))
 
       shaped : count_by is_make (m.body (thunk_in s.word d)) ≤ 2
       shaped = subst (λ (t : Thunk). count_by is_make (m.body t) ≤ 2) (stands.whole.tied.thunk d used) ((stands.whole.kept.shaped d used).shape.makes)
-
--- an exchange of an empty word leaves what it writes
-log_now : (f : Spot → ℕ) (d k new : ℕ) → f (spots.LogWord d k) ≡ 0
-    → put f (spots.LogWord d k) (written (Exchanges 0 new) (f (spots.LogWord d k))) (spots.LogWord d k) ≡ new
-log_now f d k new none = ap (λ n. put f (spots.LogWord d k) (written (Exchanges 0 new) n) (spots.LogWord d k)) none
-    ∙ (one_here d _ _ ∙ one_here k _ _)
 
 -- one step of the machine
 module _ (m : Meaning) (laws : Laws m) (l : Layout) (limits : IsWithinLimits l) (rs : List Request) (allowed : AreAllowed rs)
@@ -171,6 +174,9 @@ module _ (m : Meaning) (laws : Laws m) (l : Layout) (limits : IsWithinLimits l) 
 
   stands : HasHistory m l rs s
   stands = reached_have m laws l rs limits allowed w reached
+
+  stands' : HasHistory m l rs s'
+  stands' = reached_have m laws l rs limits allowed v (more_reached m l rs w v e reached facts.leads.happens)
 
   words : WordsStand facts.before.agreement.used s.word s'.word
   words = facts.leads.words
@@ -207,11 +213,12 @@ module _ (m : Meaning) (laws : Laws m) (l : Layout) (limits : IsWithinLimits l) 
     same_most q n h = ⊎_elim (λ z. inl z)
         (λ y. inr (inl (ap adds_by (words.reply q (adds_some (s.word (spots.Reply q)) y.0)) ∙ y.0, y.1))) h
 
-    used_before : (i : ℕ) (y : Published) → (s.part i).published ≡ Some y → facts.before.agreement.used y.descriptor ≡ true
-    used_before i y is = facts.there.sound.sections.in_published.used i y is
-
-    log_stands : (d k : ℕ) → facts.before.agreement.used d ≡ true → s.word (spots.LogWord d k) ≢ 0 → s'.word (spots.LogWord d k) ≡ s.word (spots.LogWord d k)
-    log_stands d k used some = words.log d k used some
+    -- a word of a log stands, where somebody is sure of the descriptor
+    log_stands : (d k : ℕ) → IsSure s d → IsSure s' d → log_in s.word d k ≢ 0 → log_in s'.word d k ≡ log_in s.word d k
+    log_stands d k before behind some = ⊎_elim
+        (λ same. same)
+        (λ new. new.now ∙ kept_word (log_in s.word d k) new.proposal some)
+        (reached_log_goes m laws l limits rs allowed w v r e.kind reached st d k before behind)
 
     most_keeps : (q n : ℕ) → IsMost m l rs s q n → IsMost m l rs s' q n
     most_keeps q n h = ⊎_elim (λ z. inl z)
@@ -228,9 +235,11 @@ module _ (m : Meaning) (laws : Laws m) (l : Layout) (limits : IsWithinLimits l) 
           of_thunk = z.3 ∙ y.of_thunk;
           request = y.request;
           many = let before = y.many in
-              let more = makes_stay (λ k. s.word (spots.LogWord y.descriptor k)) (λ k. s'.word (spots.LogWord y.descriptor k))
-              (λ k some. log_stands y.descriptor k (subst (λ d. facts.before.agreement.used d ≡ true) y.at
-              (used_before (worker_of m l rs q) y.section y.published)) some) (line (m.body y.thunk)) in omega (arith, before, more);
+              let more = makes_stay (λ k. log_in s.word y.descriptor k) (λ k. log_in s'.word y.descriptor k)
+              (λ k some. log_stands y.descriptor k
+              (subst (IsSure s) y.at (worker_of m l rs q, (stands.whole.slots.tied (worker_of m l rs q)).published_sure y.section y.published))
+              (subst (IsSure s') (z.2 ∙ y.at) (worker_of m l rs q, (stands'.whole.slots.tied (worker_of m l rs q)).published_sure z.0 z.1)) some)
+              (line (m.body y.thunk)) in omega (arith, before, more);
           adds = y.adds;
         }))
 
@@ -279,15 +288,48 @@ module _ (m : Meaning) (laws : Laws m) (l : Layout) (limits : IsWithinLimits l) 
       in_line = subst (λ b. (if b then line_ask m l kinds.MakeCommit p.nodes.free p.blocks.free q0 (next_of m q0) else opening_ask kinds.MakeCommit q0) ≡ Some x) wins.opened
           (subst (λ k. ask_by m l rs r k p (Some q0) ≡ Some x) wins.is (subst (λ o. ask_by m l rs r e.kind p o ≡ Some x) wins.runs asked))
 
-      module _ (slot k : ℕ) (next : next_of m q0 ≡ micros.MakeCommit k) (ask : (spots.LogWord d k, Exchanges 0 (slot + 1)) ≡ x) where
-        none : s.word (spots.LogWord d k) ≡ 0
-        none = ap (λ (y : Spot × Access). s.word y.0) ask ∙ wins.empty
+      module _ (slot k : ℕ) (next : next_of m q0 ≡ micros.MakeCommit k) (made : q0.made ≡ Some slot) (near : is_beyond q0 (Some k) ≡ false)
+          (ask : (log_spot d q0.links k, Exchanges 0 (slot + 1)) ≡ x) where
+        -- the log word, where the run looks for it
+        abbrev spot : Spot
+        spot = log_spot d q0.links k
 
-        some : s'.word (spots.LogWord d k) ≢ 0
+        empty : s.word spot ≡ 0
+        empty = ap (λ (y : Spot × Access). s.word y.0) ask ∙ wins.empty
+
+        sure : IsSure s d
+        sure = (r, (stands.whole.slots.tied r).run_sure q0 wins.runs)
+
+        log_is : (stands.beside.agreement.section d).log k ≡ 0
+        log_is = sym (log_seen m l stands.whole.logs.chain stands.beside.agreement stands.beside.epochs s stands.whole.slots stands.whole.logs.stands r q0 wins.runs k near) ∙ empty
+
+        none : log_in s.word d k ≡ 0
+        none = log_read m l stands.whole.logs sure.0 d sure.1 k ∙ log_is
+
+        -- the run behind the step
+        abbrev q1 : RunState
+        q1 = inside.agrees m l (record q0 { made = None; worn = false }) (written_once found (slot + 1))
+
+        own_run : (after_by m l e.kind p p.run found).run ≡ Some q1
+        own_run = ap (λ k. (after_by m l k p p.run found).run) wins.is
+            ∙ (ap (λ (o : Option RunState). (after_by m l kinds.MakeCommit p o found).run) wins.runs
+            ∙ (ap (λ b. (if b then line_after m l kinds.MakeCommit p q0 (next_of m q0) found else inside.opened_more p q0 found).run) wins.opened
+            ∙ ap (λ (o : Option ℕ). (inside.make_committed m l p q0 o found).run) made))
+
+        runs' : (s'.part r).run ≡ Some q1
+        runs' = parts (λ i p'. i ≡ r → p'.run ≡ Some q1) (λ i p' blocks board records gone h. h) (λ same. own_run) (λ i ne same. absurd (ne same)) r refl
+
+        sure' : IsSure s' d
+        sure' = (r, (stands'.whole.slots.tied r).run_sure q1 runs')
+
+        some : log_in s'.word d k ≢ 0
         some z =
-            let now : s'.word (spots.LogWord d k) ≡ slot + 1 = ap (λ (y : Sight). y.word (spots.LogWord d k)) st.next
-            ∙ (ap (λ (y : Spot × Access). put s.word y.0 (written y.1 (s.word y.0)) (spots.LogWord d k)) (sym ask) ∙ log_now s.word d k (slot + 1) none) in
-            omega (arith, z, now)
+            let now : s'.word spot ≡ slot + 1 = ap (λ (y : Sight). y.word spot) st.next
+            ∙ (ap (λ (y : Spot × Access). put s.word y.0 (written y.1 (s.word y.0)) spot) (sym ask)
+            ∙ (put_here s.word spot (written (Exchanges 0 (slot + 1)) (s.word spot)) ∙ ap (written (Exchanges 0 (slot + 1))) empty)) in
+            let seen : s'.word spot ≡ (stands'.beside.agreement.section d).log k = log_seen m l stands'.whole.logs.chain stands'.beside.agreement stands'.beside.epochs s' stands'.whole.slots stands'.whole.logs.stands r q1 runs' k near in
+            let read = log_read m l stands'.whole.logs sure'.0 d sure'.1 k in
+            omega (arith, z, now, seen, read)
 
         all : length q0.opened ≡ 13
         all = open_run q0 wins.opened
@@ -317,7 +359,7 @@ module _ (m : Meaning) (laws : Laws m) (l : Layout) (limits : IsWithinLimits l) 
             let more = line.counted.slot_commit q0.at (ap is_commit code) in
             let rises = line.counted.slot_rises (suc q0.at) (a.section d).edge (omega (arith, less)) in
             let full = sound.section.in_log.full k (omega (arith, log, more, rises)) in
-            let same = own_words m l stands.whole.logs d k in omega (arith, full, same, none)))
+            let same = log_is in omega (arith, full, same)))
             (λ le. omega (arith, le, behind, place))
             (order q0.at (a.section d).edge)
 
@@ -338,20 +380,20 @@ module _ (m : Meaning) (laws : Laws m) (l : Layout) (limits : IsWithinLimits l) 
         thunk_is : own.0.thunk ≡ t
         thunk_is = sym (thunk_there m l rs s stands facts.before facts.there map (worker_of m l rs n) own.0 own.1) ∙ ap (thunk_in s.word) own.2
 
-        one_more : suc (makes_in (λ i. s.word (spots.LogWord d i)) (line (m.body t))) ≤ makes_in (λ i. s'.word (spots.LogWord d i)) (line (m.body t))
-        one_more = makes_more (λ i. s.word (spots.LogWord d i)) (λ i. s'.word (spots.LogWord d i))
-            (λ i full. log_stands d i (subst (λ j. facts.before.agreement.used j ≡ true) own.2 (used_before (worker_of m l rs n) own.0 own.1)) full)
+        one_more : suc (makes_in (λ i. log_in s.word d i) (line (m.body t))) ≤ makes_in (λ i. log_in s'.word d i) (line (m.body t))
+        one_more = makes_more (λ i. log_in s.word d i) (λ i. log_in s'.word d i)
+            (λ i full. log_stands d i sure sure' full)
             (line (m.body t)) q0.at k at none some
 
         -- the Makes that its section had won
-        had : IsMost m l rs s n (old.won n) → old.won n ≤ makes_in (λ i. s.word (spots.LogWord d i)) (line (m.body t))
+        had : IsMost m l rs s n (old.won n) → old.won n ≤ makes_in (λ i. log_in s.word d i) (line (m.body t))
         had h = ⊎_elim (λ z. omega (arith, z))
             (λ more. ⊎_elim (λ y. absurd (adds_some _ y.0 (unreplied m l rs s stands d used q0.at k at edge)))
             (λ y. let same : y.section ≡ own.0 = some_same y.section own.0 (sym y.published ∙ own.1) in
             let descriptor : y.descriptor ≡ d = sym y.at ∙ (ap (λ (z : Published). z.descriptor) same ∙ own.2) in
             let thunk : y.thunk ≡ t = sym y.of_thunk ∙ (ap (λ (z : Published). z.thunk) same ∙ thunk_is) in
-            subst (λ (z : Thunk). old.won n ≤ makes_in (λ i. s.word (spots.LogWord d i)) (line (m.body z))) thunk
-            (subst (λ j. old.won n ≤ makes_in (λ i. s.word (spots.LogWord j i)) (line (m.body y.thunk))) descriptor y.many)) more) h
+            subst (λ (z : Thunk). old.won n ≤ makes_in (λ i. log_in s.word d i) (line (m.body z))) thunk
+            (subst (λ j. old.won n ≤ makes_in (λ i. log_in s.word j i) (line (m.body y.thunk))) descriptor y.many)) more) h
 
         now : Makes m l rs s' n (suc (old.won n))
         now = record {
@@ -389,10 +431,7 @@ module _ (m : Meaning) (laws : Laws m) (l : Layout) (limits : IsWithinLimits l) 
 
       won_one : Counted m l rs s'
       won_one =
-          let c = make_commit_asked q0 x (next_of m q0) in_line in
-          let low = log_low m l stands.beside s stands.whole r q0 wins.runs (open_run q0 wins.opened) q0.at c.2.log (micros.MakeCommit c.2.log)
-          (next_in_line m q0 (micros.MakeCommit c.2.log) refl c.2.step) refl in
-          won_more c.0 c.2.log c.2.step (ap (λ (a : Spot). (a, Exchanges 0 (c.0 + 1))) (sym (in_first_part d q0.links c.2.log low)) ∙ c.2.is)
+          let c = make_commit_asked q0 x (next_of m q0) in_line in won_more c.0 c.2.log c.2.step c.1 c.2.near c.2.is
 
     pub counted_on : Counted m l rs s'
     counted_on = ⊎_elim kept (λ more. ⊎_elim won_one gave more) own_leaves.slots

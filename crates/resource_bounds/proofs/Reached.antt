@@ -22,7 +22,7 @@ use Rattle.machine_states.proofs.Sights.{happens_steps}
 use Rattle.machine_scenes.specs.Shown.{States}
 use Rattle.reached_histories.specs.machine_facts.specs.machine_invariant.specs.After.{AreAllowed}
 use Rattle.reached_histories.specs.machine_facts.specs.machine_invariant.specs.Whole.{Beside, IsWhole}
-use Rattle.reached_histories.specs.machine_facts.specs.machine_invariant.proofs.After.{reached_whole}
+use Rattle.reached_histories.specs.machine_facts.specs.machine_invariant.proofs.After.{reached_whole, reached_beside}
 use Rattle.reached_histories.specs.machine_facts.specs.machine_invariant.proofs.First.{same_states}
 use Rattle.reached_histories.specs.machine_facts.specs.machine_invariant.proofs.Rising.{rises_after}
 use Rattle.resource_bounds.specs.Versions.{run_count, open_count, runs_below, VersionsAreCounted}
@@ -92,7 +92,7 @@ module _ (m : Meaning) (laws : Laws m) (l : Layout) (limits : IsWithinLimits l) 
   step_has w v e old goes =
       let reached = more_reached m l rs w v e old.reached goes in
       let all = reached_all m l rs w old.reached in
-      let a = reached_whole m laws l rs old.reached.events w limits allowed old.reached.after in
+      let a = reached_beside m laws l rs old.reached.events w limits allowed old.reached.after in
       let b = reached_whole m laws l rs reached.events v limits allowed reached.after in
       record {
         reached = reached;
@@ -100,6 +100,7 @@ module _ (m : Meaning) (laws : Laws m) (l : Layout) (limits : IsWithinLimits l) 
           step = (happens_steps m l rs w v e (record { words = le_of_eq (sym all.words); parts = all.parts }) goes).0;
           beside = a.0;
           whole = a.1;
+          requests = a.2;
           beside' = b.0;
           whole' = b.1;
         }) p (rises_after m laws l rs old.reached.events w limits allowed old.reached.after e v goes) (old.has p);

@@ -37,7 +37,6 @@ use Rattle.reached_histories.specs.machine_facts.specs.machine_invariant.specs.W
 use Rattle.reached_histories.specs.Requests.{requests_of}
 use Rattle.reached_histories.specs.Kept.{link_of}
 use Rattle.reached_histories.specs.Laws.{HasHistory}
-use Rattle.reached_histories.specs.machine_facts.specs.machine_invariant.proofs.Holding.{own_words}
 
 -- between a Make and its Stamp no section stops
 goes_on : (c : CellRules) (d : ℕ) (log : ℕ → ℕ) (x : Micro) → 2 ≤ phase x → phase x ≤ 3 → is_stop c d log x ≡ false
@@ -100,9 +99,6 @@ module _ (m : Meaning) (l : Layout) (rs : List Request) (s : Sight) (stands : Ha
   stamp_rank : rank (x.code stamp) ≡ 2
   stamp_rank = ap rank in_line.stamped.stamps
 
-  log_is : (k : ℕ) → x.log k ≡ s.word (spots.LogWord d k)
-  log_is k = sym (own_words m l whole.logs d k)
-
   -- the request of the section
   request_is : h.request d ≡ t.request
   request_is = section_tied.request ∙ of_thunk.request
@@ -122,10 +118,10 @@ module _ (m : Meaning) (l : Layout) (rs : List Request) (s : Sight) (stands : Ha
         (λ le. le) (order stamp i)
 
     -- the section of a request that has agreed on a Make and is done has answered
-    module _ (agreed : s.word (spots.LogWord d k) ≢ 0) (done : s.word (spots.DoneWord d) ≢ 0) (map : m.is_map ≡ true) where
+    module _ (agreed : x.log k ≢ 0) (done : s.word (spots.DoneWord d) ≢ 0) (map : m.is_map ≡ true) where
       passed : i < x.edge
       passed = ⊎_elim (λ less. less)
-          (λ le. absurd (agreed (sym (log_is k) ∙ (whole.sections.sound.sections d used).section.in_log.empty k
+          (λ le. absurd (agreed ((whole.sections.sound.sections d used).section.in_log.empty k
           (let rises = in_line.counted.slot_rises x.edge i le in let log = in_line.counted.make_log i k code_is in omega (arith, rises, log)))))
           (order i x.edge)
 

@@ -1,3 +1,4 @@
 pub mod Once
 pub mod Marking
 pub mod Rooms
+pub mod Freed

@@ -1,10 +1,11 @@
 -- How a runner's block changes.
-use Rattle.std.specs.Prelude.{ℕ, ◌+◌, Bool, true, false, ◌==◌, ◌||◌, nat_lt, if◌then◌else◌}
-use Rattle.machine_states.specs.body_terms.specs.Word.{version_of}
+use Rattle.std.specs.Prelude.{ℕ, ◌+◌, ◌-◌, Bool, true, false, ◌==◌, ◌||◌, nat_lt, if◌then◌else◌}
+use Rattle.machine_states.specs.body_terms.specs.Word.{value_of, version_of}
 use Rattle.machine_states.specs.table_words.specs.declared.layout.Layout.{Layout}
-use Rattle.machine_states.specs.runner_parts.specs.Lists.{nodes_looked, slot_taken, slot_made, slot_back, slot_retired}
+use Rattle.machine_states.specs.runner_parts.specs.Lists.{blocks_given_back, nodes_looked, slot_taken, slot_made, slot_back, slot_retired}
 use Rattle.runner_block.specs.declared.block.Block.{Block}
-use Rattle.runner_block.specs.Kept.{KeptState, with_part, with_nodes, over_in}
+use Rattle.runner_block.specs.Kept.{KeptState, with_nodes, with_blocks, run_ended}
+use Rattle.runner_block.specs.Links.{block_emptied, blocks_are}
 
 -- the block after a private load in a run, of which a Make has its slot in the hand, or not yet
 abbrev pub block_filling : Block → ℕ → Bool → Block
@@ -32,6 +33,20 @@ abbrev pub block_stored : Layout → Block → ℕ → Block
 block_stored l b number =
     record b { place = record (b.place) { worn = b.place.worn || version_of number == l.version_max } }
 
+-- after 0 was stored into a word of this own block of a log: in a run it is the one that is to be linked
+abbrev pub block_cleared : Block → ℕ → Block
+block_cleared b block = if b.place.inside
+    then record b { lists = with_blocks b.lists (block_emptied b.lists.blocks block) }
+    else b
+
+-- after the load of a cell, whose word made the runner sure of the descriptor that it names, or didn't
+abbrev pub block_saw : Block → Bool → ℕ → Block
+block_saw b true word = record b {
+  lists = with_blocks b.lists
+      (blocks_are b.lists.blocks (blocks_given_back (value_of word - 1) b.lists.blocks.lists));
+}
+block_saw b false word = b
+
 -- after the commit of a Make
 abbrev pub block_made : Block → ℕ → Bool → Block
 block_made b slot won = record {
@@ -46,7 +61,7 @@ block_retired b epoch = record b { place = record (b.place) { epoch = epoch } }
 
 -- the lists after the release of a lock, which was the section's own, released last, or a nested one
 abbrev pub lists_released : KeptState → ℕ → Bool → KeptState
-lists_released lists descriptor true = with_part lists (over_in lists.part descriptor)
+lists_released lists descriptor true = run_ended lists descriptor
 lists_released lists descriptor false = lists
 
 -- after the release of this lock

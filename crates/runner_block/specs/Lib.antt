@@ -1,4 +1,5 @@
 pub mod Room
+pub mod Links
 pub mod Marks
 pub mod Kept
 pub mod Places

@@ -1,7 +1,10 @@
 //! What a runner's code keeps, in one block of memory.
-ghost use Rattle.std.specs.Prelude.{◌≡◌, ◌<◌, true, false};
+ghost use Rattle.std.specs.Prelude.{◌≡◌, ◌<◌, ◌≤◌, ◌⊎◌, length, true, false, Some};
 ghost use Rattle.machine_states.specs.runner_parts.specs.Tests.{has};
-ghost use Rattle.runner_block.specs.Blocks.{block_looked, block_stored, block_made, block_slot_retired, block_retired, block_released};
+ghost use Rattle.runner_block.specs.Blocks.{block_looked, block_stored, block_cleared, block_saw, block_made, block_slot_retired, block_retired, block_released};
+ghost use Rattle.machine_states.specs.epoch_core.specs.Lists.{times};
+ghost use Rattle.machine_states.specs.runner_steps.specs.InRun.{make_slot};
+ghost use Rattle.runner_block.specs.Links.{names};
 ghost use Rattle.runner_block.specs.Room.{AreFew};
 ghost use Rattle.machine_states.specs.runner_parts.specs.Lists.{slot_retired};
 ghost use Rattle.runner_block.specs.Looks.{MayTake};
@@ -55,6 +58,41 @@ impl Block {
     {
         if Word::from_bits(number).version() == layout.version_max {
             self.place.worn = true;
+        }
+    }
+
+    /// 0 was stored into a word of this own block of a log. In a run it is the block that is to be linked.
+    pub fn cleared(&mut self, block: u32)
+        requires own { self.old.place.inside ≡ true
+            → make_slot self.old.lists.blocks.links.block self.old.lists.blocks.lists.free ≡ Some block }
+        requires once { self.old.place.inside ≡ true → times block self.old.lists.blocks.lists.free ≤ 1 }
+        ensures { self.new ≡ block_cleared self.old block }
+    {
+        if self.place.inside {
+            self.lists.empty_block(block);
+        }
+    }
+
+    /// Whether this word of a cell that was loaded may make the runner sure of a descriptor under which blocks lie in its
+    /// limbo: it does where the cell is a lock's.
+    #[inline(always)]
+    pub fn awaits(&self, word: u64) -> bool
+        ensures none { result ≡ false → self.now.place.inside ≡ false
+            → (length self.now.lists.blocks.lists.limbo ≡ 0) ⊎ (names self.now.lists.named word ≡ false) }
+        ensures some { result ≡ true → self.now.place.inside ≡ false }
+        ensures names { result ≡ true → names self.now.lists.named word ≡ true }
+    {
+        !self.place.inside && self.lists.is_awaited(word)
+    }
+
+    /// A cell was loaded, whose word made the runner sure of the descriptor that it names, or didn't.
+    #[inline(always)]
+    pub fn saw(&mut self, sure: bool, word: u64)
+        requires { sure ≡ true → names self.old.lists.named word ≡ true }
+        ensures { self.new ≡ block_saw self.old sure word }
+    {
+        if sure {
+            self.lists.give_back(Word::from_bits(word).value() - 1);
         }
     }
 

@@ -1,26 +1,30 @@
 //! What a runner's code keeps of its part, in one block of memory.
-ghost use Rattle.std.specs.Prelude.{◌≡◌, ◌+◌, ◌<◌, ◌≤◌, ◌^◌, ℕ, [], IfOk, length, true, None, if◌then◌else◌, slice_set};
+ghost use Rattle.std.specs.Prelude.{◌≡◌, ◌⊎◌, ◌+◌, ◌<◌, ◌≤◌, ◌^◌, ◌∷◌, ◌++◌, ℕ, [], IfOk, length, true, false, Some, None, if◌then◌else◌, slice_set};
 ghost use Rattle.machine_states.specs.runner_parts.specs.declared.event.EventKind.TheVariants as kinds;
 ghost use Rattle.machine_states.specs.runner_parts.specs.Tests.{has};
 ghost use Rattle.machine_states.specs.epoch_core.specs.Lists.{times};
 ghost use Rattle.machine_states.specs.epoch_core.specs.declared.stage.Stage.TheVariants as stages;
 ghost use Rattle.machine_states.specs.runner_steps.specs.AfterOutside.{with_stage, collected, scan_one_after, advance_after, split_after};
-ghost use Rattle.machine_states.specs.runner_steps.specs.Guards.{load_guard_after};
+ghost use Rattle.machine_states.specs.runner_steps.specs.Guards.{is_last_guard, load_guard_after};
 ghost use Rattle.machine_states.specs.runner_steps.specs.Board.{free_if};
 ghost use Rattle.machine_states.specs.runner_parts.specs.Lists.{slot_taken, slot_made, slot_back, slot_retired, slot_given, slot_drawn, nodes_looked};
 ghost use Rattle.runner_block.specs.Scans.{scan_of};
-ghost use Rattle.runner_block.specs.Kept.{loaded_of, scanned_of, held_in, entered_in, over_in, with_part, with_nodes, with_marks};
+ghost use Rattle.runner_block.specs.Kept.{loaded_of, scanned_of, held_in, entered_in, run_ended, with_part, with_nodes, with_marks, with_blocks, with_named, given_back_if, freed_if};
+ghost use Rattle.runner_block.specs.Links.{first_blocks, block_emptied, block_linked, blocks_are, names};
+ghost use Rattle.machine_states.specs.runner_parts.specs.Lists.{blocks_given_back};
+ghost use Rattle.machine_states.specs.runner_steps.specs.InRun.{make_slot};
 ghost use Rattle.runner_block.specs.Marks.{mark_loaded, slot_tried, marks_of, lost_in};
-ghost use Rattle.machine_states.specs.table_words.specs.Places.{board_words};
+ghost use Rattle.machine_states.specs.table_words.specs.Places.{board_words, part_words};
 ghost use Rattle.runner_block.specs.Room.{AreFew, most_guards};
 ghost use Rattle.machine_states.specs.First.{falling, first_part};
 
 use crate::descriptors::DescriptorLists;
 use crate::guards::GuardWords;
+use crate::log_blocks::LogBlocks;
 use crate::marks::BoardMarks;
 use crate::nodes::NodeLists;
 use crate::stage_fields::StageFields;
-use machine_states::body_terms::{Body, Trail};
+use machine_states::body_terms::{Body, Trail, Word};
 use machine_states::epoch_core::{LAST_EPOCH, Stage};
 use machine_states::table_words::Layout;
 use std::alloc::{AllocError, Global};
@@ -46,14 +50,17 @@ impl RunRoom {
     }
 }
 
-/// What a runner's code keeps of its part: its stage, its lists, the guard words of a sweep in progress, and of the
-/// keeper how many workers were split off. The lists have room for each slot of their kind, so that no step takes
-/// memory. Beside these there is the room for a run: contracts don't see it.
+/// What a runner's code keeps of its part: its stage, its lists, what its guard word names, the guard words of a sweep
+/// in progress, of a run what it has linked, and of the keeper how many workers were split off. The lists have room for
+/// each slot of their kind, so that no step takes memory. Beside these there is the room for a run: contracts don't see
+/// it.
 #[derive(Drop)]
 pub struct Kept {
     stage: StageFields,
     nodes: NodeLists,
     descriptors: DescriptorLists,
+    blocks: LogBlocks,
+    named: Option<u32>,
     guards: GuardWords,
     marks: BoardMarks,
     splits: u32,
@@ -96,6 +103,8 @@ impl Model for Kept {
       };
       room = a.nodes.room;
       marks = a.marks;
+      blocks = a.blocks;
+      named = a.named;
     } };
 }
 
@@ -108,16 +117,26 @@ pub struct Share {
 }
 
 impl Kept {
-    /// A runner that has done nothing, with these node slots and these descriptors.
-    pub fn new(alloc: Global, nodes: Share, descriptors: Share) -> Result<Self, AllocError>
+    /// A runner that has done nothing, with these node slots, these descriptors and these blocks, of which none comes
+    /// from another runner.
+    pub fn new(
+        alloc: Global,
+        nodes: Share,
+        descriptors: Share,
+        first_block: u32,
+        blocks: u32,
+    ) -> Result<Self, AllocError>
         requires nodes { nodes.first + nodes.count ≤ nodes.room }
         requires descriptors { descriptors.first + descriptors.count < 2 ^ 32 }
         requires descriptor_room { descriptors.count ≤ descriptors.room }
+        requires blocks { first_block + blocks < 2 ^ 32 }
         ensures part { IfOk result
             (λ x. x.part ≡ first_part (falling nodes.first nodes.count)
             (falling descriptors.first descriptors.count) []) }
         ensures room { IfOk result (λ x. x.room ≡ nodes.room) }
         ensures marks { IfOk result (λ x. x.marks ≡ marks_of []) }
+        ensures blocks { IfOk result (λ x. x.blocks ≡ first_blocks (falling first_block blocks)) }
+        ensures named { IfOk result (λ x. x.named ≡ None) }
     {
         Ok(Kept {
             stage: StageFields::idle(),
@@ -128,6 +147,8 @@ impl Kept {
                 descriptors.count,
                 descriptors.room,
             )?,
+            blocks: LogBlocks::new(alloc, first_block, blocks)?,
+            named: None,
             guards: GuardWords::new(alloc)?,
             marks: BoardMarks::new(),
             splits: 0,
@@ -198,6 +219,47 @@ impl Kept {
         ensures { result ≡ length self.now.part.descriptors.limbo }
     {
         self.descriptors.limbo()
+    }
+
+    pub fn free_blocks(&self) -> &[u32]
+        ensures list { result.now ≡ self.now.blocks.lists.free }
+        ensures few { length result.now < 2 ^ 32 }
+    {
+        self.blocks.free()
+    }
+
+    pub fn limbo_blocks(&self) -> u32
+        ensures { result ≡ length self.now.blocks.lists.limbo }
+    {
+        self.blocks.limbo()
+    }
+
+    /// The place in the log at which the last part of the run's section begins.
+    pub fn part_start(&self) -> u32
+        ensures { result ≡ self.now.blocks.links.start }
+    {
+        self.blocks.start()
+    }
+
+    /// The block that has this part, if it isn't the descriptor.
+    pub fn last_link(&self) -> Option<u32>
+        ensures { result ≡ self.now.blocks.links.last }
+    {
+        self.blocks.last()
+    }
+
+    /// The block that the run is to empty and to link: the one in its hand, or else the last free one.
+    pub fn next_block(&self) -> Option<u32>
+        ensures { result ≡ make_slot self.now.blocks.links.block self.now.blocks.lists.free }
+    {
+        self.blocks.next()
+    }
+
+    /// How many words of that block are 0.
+    pub fn emptied(&self) -> u32
+        ensures { result ≡ self.now.blocks.links.emptied }
+    {
+        self.blocks.emptied()
     }
 
     /// In how many words of the board the runner last found a link, and the exchange behind it lost.
@@ -306,10 +368,12 @@ impl Kept {
         requires own { has self.old.part.descriptors.free descriptor ≡ true }
         requires once { times descriptor self.old.part.descriptors.free ≤ 1 }
         requires none { self.old.part.published ≡ None }
-        ensures { self.new ≡ with_part self.old (held_in self.old.part descriptor won) }
+        ensures { self.new ≡ with_blocks (with_part self.old (held_in self.old.part descriptor won))
+            (given_back_if won descriptor self.old.blocks) }
     {
         if won {
             self.descriptors.publish(descriptor);
+            self.blocks.give_back(descriptor);
         }
     }
 
@@ -321,26 +385,76 @@ impl Kept {
         self.guards.forget();
     }
 
+    /// The own guard word names this from now on.
+    pub fn guard(&mut self, named: Option<u32>)
+        ensures { self.new ≡ with_named self.old named }
+    {
+        self.named = named;
+    }
+
+    /// Whether this word of a lock, if it is one, makes the runner sure of a descriptor under which blocks may lie in
+    /// its limbo: the own guard word names the descriptor too. Mostly none is in limbo.
+    #[inline(always)]
+    pub fn is_awaited(&self, word: u64) -> bool
+        ensures none { result ≡ false
+            → (length self.now.blocks.lists.limbo ≡ 0) ⊎ (names self.now.named word ≡ false) }
+        ensures some { result ≡ true → names self.now.named word ≡ true }
+    {
+        self.blocks.limbo() != 0 && names(self.named, word)
+    }
+
+    /// The runner became sure of this descriptor: the blocks under it are free.
+    #[inline(never)]
+    pub fn give_back(&mut self, descriptor: u32)
+        ensures { self.new ≡ with_blocks self.old
+            (blocks_are self.old.blocks (blocks_given_back descriptor self.old.blocks.lists)) }
+    {
+        self.blocks.give_back(descriptor);
+    }
+
+    /// One more word of this block, which the run is to link, is 0.
+    pub fn empty_block(&mut self, block: u32)
+        requires own { make_slot self.old.blocks.links.block self.old.blocks.lists.free ≡ Some block }
+        requires once { self.old.blocks.links.block ≡ None → times block self.old.blocks.lists.free ≤ 1 }
+        ensures { self.new ≡ with_blocks self.old (block_emptied self.old.blocks block) }
+    {
+        self.blocks.empty(block);
+    }
+
+    /// The exchange that was to link the block in the hand found this number.
+    pub fn link_block(&mut self, block: u32, found: u64)
+        requires own { self.old.blocks.links.block ≡ Some block }
+        requires few { self.old.blocks.links.start + part_words < 2 ^ 32 }
+        ensures { self.new ≡ with_blocks self.old (block_linked self.old.blocks block found) }
+    {
+        self.blocks.link(block, found);
+    }
+
     /// A sweep read one more guard word. After the last one it is over, and the retired descriptors that none of its
-    /// words names are free.
+    /// words names are free, and the blocks that lie under such a descriptor.
     pub fn load_guard(&mut self, layout: Layout, found: u64)
         requires limits { layout.runners < most_guards }
         requires few { length self.old.part.guards.looked ≤ layout.runners }
-        ensures { self.new ≡ with_part self.old (load_guard_after layout self.old.part found) }
+        ensures { self.new ≡ with_blocks (with_part self.old (load_guard_after layout self.old.part found))
+            (freed_if (is_last_guard layout self.old.part.guards.looked)
+            (self.old.part.guards.looked ++ found ∷ []) self.old.blocks) }
     {
         let last = self.guards.words().len() == layout.runners as usize;
         self.guards.read(found);
         if last {
             self.descriptors.sweep(self.guards.words());
+            self.blocks.sweep(self.guards.words());
             self.guards.forget();
         }
     }
 
-    /// A run of this descriptor came to its end: where it is that of the own section, the descriptor goes into limbo.
+    /// A run of this descriptor came to its end: where it is that of the own section, the descriptor goes into limbo, and
+    /// so do the blocks that the run linked.
     pub fn end_run(&mut self, descriptor: u32)
-        ensures { self.new ≡ with_part self.old (over_in self.old.part descriptor) }
+        ensures { self.new ≡ run_ended self.old descriptor }
     {
         self.descriptors.end_run(descriptor);
+        self.blocks.end_run(descriptor);
     }
 
     /// A Make takes a free slot into the hand.
@@ -406,5 +520,16 @@ impl Kept {
         ensures { self.new ≡ with_nodes self.old (nodes_looked layout self.old.part.nodes slot cell word) }
     {
         self.nodes.look(layout, slot, cell, word);
+    }
+}
+
+/// Whether this word, if it is a lock's, names the descriptor that the own guard word names.
+fn names(named: Option<u32>, word: u64) -> bool
+    ensures { result ≡ names named word }
+{
+    let value = Word::from_bits(word).value();
+    match named {
+        Some(descriptor) => value != 0 && descriptor == value - 1,
+        None => false,
     }
 }

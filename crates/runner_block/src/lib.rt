@@ -9,11 +9,13 @@ mod block;
 mod descriptors;
 mod guards;
 mod kept;
+mod log_blocks;
 mod marks;
 mod nodes;
 mod place;
 mod reserved;
 mod stage_fields;
+mod waiting;
 
 pub use block::Block;
 pub use kept::{Kept, RunRoom, Share};

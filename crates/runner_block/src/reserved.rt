@@ -61,7 +61,7 @@ pub fn wait_over(list: &mut Vec<u32>, limbo: &mut Vec<Retired>, epoch: u64)
 }
 
 /// Whether none of these guard words names this descriptor.
-fn is_unnamed(words: &[u64], descriptor: u32) -> bool
+pub fn is_unnamed(words: &[u64], descriptor: u32) -> bool
     ensures { result ≡ is_unnamed words.now descriptor }
 {
     for word in words {

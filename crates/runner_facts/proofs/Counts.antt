@@ -1,7 +1,8 @@
 -- Each runner has its own descriptors still.
-use Rattle.std.specs.Prelude.{◌==◌, ◌*◌, nat_lt, cond, true, false}
+use Rattle.std.specs.Prelude.{◌==◌, ◌*◌, nat_lt, cond, false}
 use Rattle.std.proofs.Common.{◌≡◌, ℕ, zero, suc, ◌+◌, ◌<◌, List, [], length, refl, ap, ◌∙◌, arith, Option, Some, None}
 use Rattle.std.proofs.lemmas.Bool.Decides.{nat_tests}
+use Rattle.machine_states.specs.epoch_core.specs.small_lemmas.proofs.Numbers.{less_tested, self_tested}
 use Rattle.machine_states.specs.map_history.specs.declared.op.Request.{Request}
 use Rattle.machine_states.specs.table_words.specs.declared.layout.Layout.{Layout}
 use Rattle.machine_states.specs.table_words.specs.Limits.{IsWithinLimits}
@@ -64,9 +65,24 @@ module _ (m : Meaning) (l : Layout) (rs : List Request) (s s' : Sight) (r : ℕ)
       (joins m l rs kind r p st.step.ask st.step.asked) (own_count p.run (unless_gone _ p.gone _ st.step.ask st.step.asked).1) (λ k ne. refl) i
       ∙ old i)
 
-falling_length : (from n : ℕ) → length (falling from n) ≡ n
+pub falling_length : (from n : ℕ) → length (falling from n) ≡ n
 falling_length from zero = refl
 falling_length from (suc n) = ap suc (falling_length from n)
+
+-- the first part of a worker, and the keeper's
+pub first_worker : (m : Meaning) (l : Layout) (r : ℕ) → r < l.runners → first_part_of m l r ≡ worker_part m l r
+first_worker m l r low =
+    ap (λ b. cond b (keeper_part m l) (cond (nat_lt r l.runners) (worker_part m l r) (first_part [] [] []))) (below r l.runners low)
+    ∙ ap (λ b. cond b (worker_part m l r) (first_part [] [] [])) (less_tested r l.runners low)
+  where
+    below : (r n : ℕ) → r < n → (r == n) ≡ false
+    below r n low = grind (arith, nat_tests)
+
+pub first_keeper : (m : Meaning) (l : Layout) → first_part_of m l l.runners ≡ keeper_part m l
+first_keeper m l = ap (λ b. cond b (keeper_part m l) (cond (nat_lt l.runners l.runners) (worker_part m l l.runners) (first_part [] [] []))) (self_tested l.runners)
+
+pub no_more : (a b : ℕ) → a ≡ b → a + (0 + 0) ≡ b
+no_more a b e = omega (arith, e)
 
 reached_as : (m : Meaning) → Laws m → (l : Layout) → IsWithinLimits l → (rs : List Request) → AreAllowed rs → (w : World)
     → Reached m l rs w → AsAtFirst m l (sight m l rs w)
@@ -78,29 +94,8 @@ reached_as m laws l limits rs allowed w reached =
 pub reached_counts : (m : Meaning) → Laws m → (l : Layout) → IsWithinLimits l → (rs : List Request) → AreAllowed rs → (w : World)
     → Reached m l rs w → DescriptorsAreKept l (sight m l rs w)
 reached_counts m laws l limits rs allowed w reached = record {
-  worker = λ r low. reached_as m laws l limits rs allowed w reached r ∙ worker_count r low;
-  keeper = reached_as m laws l limits rs allowed w reached l.runners ∙ keeper_count;
+  worker = λ r low. reached_as m laws l limits rs allowed w reached r
+      ∙ (ap descriptors_of (first_worker m l r low) ∙ no_more _ l.sections (falling_length (l.sections * r) l.sections));
+  keeper = reached_as m laws l limits rs allowed w reached l.runners
+      ∙ (ap descriptors_of (first_keeper m l) ∙ no_more _ l.runners (falling_length (l.sections * l.runners) l.runners));
 }
-  where
-    below : (r n : ℕ) → r < n → (r == n) ≡ false
-    below r n low = grind (arith, nat_tests)
-
-    less : (r n : ℕ) → r < n → nat_lt r n ≡ true
-    less r n low = grind (arith, nat_tests)
-
-    itself : (n : ℕ) → (n == n) ≡ true
-    itself n = grind (arith, nat_tests)
-
-    no_more : (a b : ℕ) → a ≡ b → a + (0 + 0) ≡ b
-    no_more a b e = omega arith
-
-    worker_count : (r : ℕ) → r < l.runners → descriptors_of (first_part_of m l r) ≡ l.sections
-    worker_count r low =
-        ap (λ b. descriptors_of (cond b (keeper_part m l) (cond (nat_lt r l.runners) (worker_part m l r) (first_part [] [] [])))) (below r l.runners low)
-        ∙ (ap (λ b. descriptors_of (cond b (worker_part m l r) (first_part [] [] []))) (less r l.runners low)
-        ∙ no_more _ l.sections (falling_length (l.sections * r) l.sections))
-
-    keeper_count : descriptors_of (first_part_of m l l.runners) ≡ l.runners
-    keeper_count =
-        ap (λ b. descriptors_of (cond b (keeper_part m l) (cond (nat_lt l.runners l.runners) (worker_part m l l.runners) (first_part [] [] [])))) (itself l.runners)
-        ∙ no_more _ l.runners (falling_length (l.sections * l.runners) l.runners)

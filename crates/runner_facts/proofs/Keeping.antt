@@ -1,7 +1,7 @@
 -- What each step leaves of a runner's part: whom it has joined and what its steps left since then, whether it goes on, and how many own descriptors it has.
-use Rattle.std.specs.Prelude.{◌==◌, ◌&&◌, not, nat_lt, nat_le, cond, Bool, true, false, if◌then◌else◌}
+use Rattle.std.specs.Prelude.{◌==◌, ◌&&◌, not, nat_lt, nat_le, Bool, true, false, if◌then◌else◌}
 use Rattle.std.specs.List.{filter}
-use Rattle.std.proofs.Common.{◌≡◌, ℕ, suc, ◌+◌, List, [], ◌∷◌, ◌++◌, length, length-append, refl, ap, arith, Option, Some, None}
+use Rattle.std.proofs.Common.{◌≡◌, ℕ, ◌+◌, List, [], ◌∷◌, ◌++◌, length, length-append, refl, ap, arith, Option, Some, None}
 use Rattle.std.proofs.lemmas.List.Filters.{length-filter_both}
 use Rattle.machine_states.specs.body_terms.specs.Line.{is_end}
 use Rattle.machine_states.specs.body_terms.specs.declared.micro.Micro.{Micro}
@@ -18,7 +18,7 @@ use Rattle.machine_states.specs.epoch_core.specs.declared.stage.Stage.TheVariant
 use Rattle.machine_states.specs.runner_parts.specs.declared.event.EventKind.{EventKind}
 use Rattle.machine_states.specs.runner_parts.specs.declared.event.EventKind.TheVariants as kinds
 use Rattle.machine_states.specs.runner_parts.specs.State.{RunState, DescriptorsState, GuardsState, RecordsState, PartState}
-use Rattle.machine_states.specs.runner_parts.specs.Lists.{without, descriptor_retired, descriptors_swept, learned}
+use Rattle.machine_states.specs.runner_parts.specs.Lists.{descriptor_retired, descriptors_swept, learned}
 use Rattle.machine_states.specs.runner_steps.specs.Sections.{is_open_run, next_of}
 use Rattle.machine_states.specs.epoch_core.specs.State.{last_epoch}
 use Rattle.machine_states.specs.runner_steps.specs.InRun.{last_clock}
@@ -28,6 +28,7 @@ use Rattle.machine_states.specs.runner_steps.specs.After.{line_after, inside_aft
 use Rattle.machine_states.specs.runner_steps.specs.Guards.{is_last_guard}
 use Rattle.machine_states.specs.epoch_core.specs.Lists.{times}
 use Rattle.machine_states.specs.World.{is_join}
+use Rattle.next_steps.proofs.Stocks.{without_length}
 use Rattle.runner_facts.specs.Facts.{published_count, descriptors_of}
 
 -- whom the keeper has joined, and what its steps since then left
@@ -57,16 +58,6 @@ over_count ds (Some x) d = by (x.descriptor == d)
         ≡ length ds.free + (length ds.limbo + published_count (Some x))
     by true = let more = length-append ds.limbo (d ∷ []) in omega arith
     by false = refl
-
--- a list without a number is shorter by as often as that stood in it
-without_length : (xs : List ℕ) (d : ℕ) → length (without xs d) + times d xs ≡ length xs
-without_length [] d = refl
-without_length (x ∷ xs) d = by (x == d) (without_length xs d)
-  where
-    by : (b : Bool) → length (without xs d) + times d xs ≡ length xs
-        → length (if not b then x ∷ without xs d else without xs d) + cond b (1 + times d xs) (times d xs) ≡ suc (length xs)
-    by true rest = omega arith
-    by false rest = omega arith
 
 module _ (m : Meaning) (l : Layout) (p : PartState) where
   keeps : (p' : PartState) → kept_by p'.records ≡ kept_by p.records → p'.gone ≡ p.gone → descriptors_of p' ≡ descriptors_of p → Keeps p p'

@@ -2,6 +2,7 @@ pub mod Walks
 mod Limbo
 mod Keeping
 mod Counts
+pub mod Blocks
 mod Joined
 mod Raising
 mod Worn

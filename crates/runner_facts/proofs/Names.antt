@@ -93,7 +93,7 @@ read_last p p' place found more a w read = ⊎_elim
     (get_more p.reads.walk (place, found) (a, w) read.at (ap (λ (xs : List (ℕ × ℕ)). slice_get xs read.at) (sym more) ∙ read.here))
 
 -- where it has seen a descriptor published, a runner is sure of it, or was of what its guard word names
-seen_sure : (g : GuardsState) (d0 d : ℕ) → is_sure_of (published_seen g d0) d ≡ true → (is_sure_of g d ≡ true) ⊎ (d0 ≡ d)
+pub seen_sure : (g : GuardsState) (d0 d : ℕ) → is_sure_of (published_seen g d0) d ≡ true → (is_sure_of g d ≡ true) ⊎ (d0 ≡ d)
 seen_sure g d0 d e = by g.sure g.named e
   where
     same : (n a b : ℕ) → ((n == a) && (n == b)) ≡ true → a ≡ b
@@ -270,7 +270,7 @@ module _ (m : Meaning) (l : Layout) (b : Beside) (s : Sight) (whole : IsWhole m 
       let none = whole.slots.listed.free_descriptors i d few ∙ ap (in_free i) (whole.tied.live d live) in omega arith)
 
 -- of whose descriptor a runner is sure, that one is in nobody's free list
-sure_unfree : (m : Meaning) (l : Layout) (b : Beside) (s : Sight) → IsWhole m l b s → (r d : ℕ) → is_sure_of (s.part r).guards d ≡ true
+pub sure_unfree : (m : Meaning) (l : Layout) (b : Beside) (s : Sight) → IsWhole m l b s → (r d : ℕ) → is_sure_of (s.part r).guards d ≡ true
     → (i : ℕ) → has (s.part i).descriptors.free d ≡ false
 sure_unfree m l b s whole r d sure i = not_has (has (s.part i).descriptors.free d) (λ h.
     let some = has_times (s.part i).descriptors.free d h in

@@ -1,10 +1,11 @@
 -- What holds of the runners' parts in each reached state, beside their slots and sections.
-use Rattle.std.specs.Prelude.{ℕ, ◌+◌, ◌<◌, ◌≡◌, true, length, Option, Some, None}
+use Rattle.std.specs.Prelude.{ℕ, ◌+◌, ◌*◌, ◌<◌, ◌≤◌, ◌≡◌, true, length, Option, Some, None}
 use Rattle.machine_states.specs.map_history.specs.declared.op.Op.{Op}
 use Rattle.machine_states.specs.body_terms.specs.Memory.{cell_of}
 use Rattle.machine_states.specs.body_terms.specs.Word.{version_of}
 use Rattle.machine_states.specs.body_terms.specs.declared.thunk.Thunk.{Thunk}
 use Rattle.machine_states.specs.table_words.specs.declared.layout.Layout.{Layout}
+use Rattle.machine_states.specs.table_words.specs.Places.{worker_blocks, keeper_blocks, attempt_blocks}
 use Rattle.machine_states.specs.table_words.specs.declared.spot.Spot.{Spot}
 use Rattle.machine_states.specs.table_words.specs.declared.spot.Spot.TheVariants.{Cell, DoneWord}
 use Rattle.machine_states.specs.structure_laws.specs.Meaning.{Meaning}
@@ -12,7 +13,8 @@ use Rattle.machine_states.specs.structure_laws.specs.Sections.{IsAllowed}
 use Rattle.machine_states.specs.structure_laws.specs.Shape.{Shaped}
 use Rattle.machine_states.specs.runner_parts.specs.declared.entries.Published.{Published}
 use Rattle.machine_states.specs.epoch_core.specs.declared.stage.Stage.TheVariants.{Entered}
-use Rattle.machine_states.specs.runner_parts.specs.State.{PartState}
+use Rattle.machine_states.specs.guard_core.specs.State.{most_linked}
+use Rattle.machine_states.specs.runner_parts.specs.State.{RunState, PartState}
 use Rattle.machine_states.specs.runner_parts.specs.Tests.{has}
 use Rattle.machine_states.specs.Sight.{Sight}
 
@@ -47,6 +49,31 @@ descriptors_of p = length p.descriptors.free + (length p.descriptors.limbo + pub
 pub record DescriptorsAreKept (l : Layout) (s : Sight) : Type 0 where
   pub worker : (r : ℕ) → r < l.runners → descriptors_of (s.part r) ≡ l.sections
   pub keeper : descriptors_of (s.part l.runners) ≡ l.runners
+
+-- how many own blocks are free, wait in limbo, or are with the run in progress: those that it linked, and the one in
+-- its hand
+abbrev pub held_count : Option ℕ → ℕ
+held_count None = 0
+held_count (Some b) = 1
+
+abbrev pub blocks_of_run : Option RunState → ℕ
+blocks_of_run None = 0
+blocks_of_run (Some q) = length q.won + held_count q.block
+
+abbrev pub blocks_of : PartState → ℕ
+blocks_of p = length p.blocks.free + (length p.blocks.limbo + blocks_of_run p.run)
+
+-- a worker has its own blocks still, and so has the keeper
+pub record BlocksAreKept (l : Layout) (s : Sight) : Type 0 where
+  pub worker : (r : ℕ) → r < l.runners → blocks_of (s.part r) ≡ worker_blocks l
+  pub keeper : blocks_of (s.part l.runners) ≡ keeper_blocks l
+
+-- a runner in no run, in whose limbo no more blocks are than so many guard words keep there, has as many free blocks as
+-- an attempt may want, if a worker has more descriptors than so many. A sweep leaves no more in limbo than that
+abbrev pub BlocksAreEnough : Layout → Sight → Type 0
+BlocksAreEnough l s = (r words : ℕ) → r < l.runners → (s.part r).run ≡ None
+    → length (s.part r).blocks.limbo ≤ most_linked * words → words < l.sections
+    → attempt_blocks ≤ length (s.part r).blocks.free
 
 -- one of the slot's five cells has the greatest version, so it can't be changed any more
 pub record HasWornCell (m : Meaning) (l : Layout) (word : Spot → ℕ) (t : ℕ) : Type 0 where

@@ -9,7 +9,7 @@ ghost use Rattle.machine_states.specs.Sight.{sight};
 ghost use Rattle.machine_facts.specs.machine_invariant.specs.After.{AreAllowed};
 ghost use Rattle.runner_facts.specs.Keeper.{KeeperStands};
 ghost use Rattle.runner_facts.specs.Names.{NamesStand};
-ghost use Rattle.runner_facts.specs.Facts.{DescriptorsAreKept, FittingAreShaped, JoinedAreGone, LimboIsDone, WalksStand, WornAreWorn};
+ghost use Rattle.runner_facts.specs.Facts.{BlocksAreEnough, BlocksAreKept, DescriptorsAreKept, FittingAreShaped, JoinedAreGone, LimboIsDone, WalksStand, WornAreWorn};
 
 use machine_states::structure_laws::Structure;
 
@@ -49,6 +49,23 @@ pub fn descriptors_are_kept<S: Structure>(structure: &S)
     ensures { (layout : Layout) (requests : List Request) (w : World) → IsWithinLimits layout → AreAllowed requests
         → Reached (S.meaning structure.now) layout requests w
         → DescriptorsAreKept layout (sight (S.meaning structure.now) layout requests w) }
+{
+    let _ = structure;
+}
+
+/// In every state that the machine reaches, each worker's blocks are as many as the layout gives it, free, in limbo,
+/// linked by its run in progress or in that one's hand, and so are the keeper's. So a worker in no run, in whose limbo no
+/// more are than so many guard words keep there, has as many free ones as an attempt may want, if it has more descriptors
+/// than so many.
+pub fn blocks_are_kept<S: Structure>(structure: &S)
+    ensures kept { (layout : Layout) (requests : List Request) (w : World) → IsWithinLimits layout
+        → AreAllowed requests
+        → Reached (S.meaning structure.now) layout requests w
+        → BlocksAreKept layout (sight (S.meaning structure.now) layout requests w) }
+    ensures enough { (layout : Layout) (requests : List Request) (w : World) → IsWithinLimits layout
+        → AreAllowed requests
+        → Reached (S.meaning structure.now) layout requests w
+        → BlocksAreEnough layout (sight (S.meaning structure.now) layout requests w) }
 {
     let _ = structure;
 }

@@ -20,7 +20,7 @@ const MAX_LOADS: u32 = 1_000_000_000;
 const LOADS_A_TURN: u32 = 4096;
 
 /// How many kinds of step there are.
-const KINDS: usize = 22;
+const KINDS: usize = 23;
 
 /// One line of a script: the gate of `runner`, at its first ask with `at`, waits until the gate of
 /// `until_runner` was asked with `until`.

@@ -35,5 +35,5 @@ module _ {T : Type 0} (m : Meaning) (most : ℕ) (a b : RunnerState T) (halts ha
   halted_apart is sum = record { made = is.made; some = is.some; few = is.few; ran = is.ran; asked = asked_apart is.made false halts halts' asks asks' steps old made steps' same low is.asked sum }
 
 -- no step was made and none counted
-pub stood_apart : {T : Type 0} (m : Meaning) (r : RunnerState T) (halts : ℕ) (asks : Asks) (made : ℕ) → made ≡ 0 → IsThrough m 0 r r halts halts asks asks 0 made
-stood_apart m r halts asks made none = subst (λ k. IsThrough m 0 r r halts halts asks asks 0 k) (sym none) (stood m r 0 halts asks 0)
+pub stood_apart : {T : Type 0} (m : Meaning) (r : RunnerState T) (most halts : ℕ) (asks : Asks) (made : ℕ) → made ≡ 0 → IsThrough m most r r halts halts asks asks 0 made
+stood_apart m r most halts asks made none = subst (λ k. IsThrough m most r r halts halts asks asks 0 k) (sym none) (stood m r most halts asks 0)

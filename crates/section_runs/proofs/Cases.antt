@@ -1,6 +1,6 @@
 -- The steps of a body, each by the call that makes it.
 use Rattle.std.proofs.Common.{◌≡◌, ℕ, suc, ◌+◌, ◌-◌, ◌<◌, ◌≤◌, List, [], ◌∷◌, ◌++◌, length, length-append, Bool, true, false, refl, sym, ap, ◌∙◌, subst, arith, Some, None, zero, eq-eqb}
-use Rattle.std.specs.Prelude.{◌==◌, cond, if◌then◌else◌, not, slice_index, slice_index_or}
+use Rattle.std.specs.Prelude.{◌==◌, cond, if◌then◌else◌, is_some, not, slice_index, slice_index_or}
 use Rattle.std.proofs.lemmas.Bool.Decides.{nat_tests}
 use Rattle.idem_cell.specs.machine_states.specs.body_terms.specs.declared.micro.Micro.{Micro}
 use Rattle.idem_cell.specs.machine_states.specs.body_terms.specs.declared.micro.Micro.TheVariants as micros
@@ -19,25 +19,30 @@ use Rattle.idem_cell.specs.machine_states.specs.runner_parts.specs.Tests.{has}
 use Rattle.idem_cell.specs.machine_states.specs.runner_parts.specs.Lists.{without, tests_without, slot_taken, slot_made, slot_back}
 use Rattle.idem_cell.specs.machine_states.specs.runner_steps.specs.InRun.{last_of}
 use Rattle.idem_cell.specs.machine_states.specs.runner_steps.specs.Sections.{settles}
-use Rattle.idem_cell.specs.machine_states.specs.runner_steps.specs.AfterInRun.{goes_on}
+use Rattle.idem_cell.specs.machine_states.specs.runner_steps.specs.AfterInRun.{goes_on, agrees}
 use Rattle.idem_cell.specs.machine_states.specs.epoch_core.specs.Lists.{times}
 use Rattle.idem_cell.specs.machine_states.specs.Sight.{part_or_first}
 use Rattle.idem_cell.specs.machine_states.proofs.Steps.{some_same}
 use Rattle.nested_lock.specs.machine_facts.specs.machine_invariant.specs.After.{AreAllowed}
 use Rattle.nested_lock.specs.machine_facts.specs.machine_invariant.specs.Slots.{times_among}
 use Rattle.nested_lock.specs.machine_facts.specs.machine_invariant.proofs.After.{whole_after}
+use Rattle.idem_alloc.specs.commit_log.specs.next_steps.specs.Steps.{stock}
 use Rattle.idem_alloc.specs.commit_log.specs.next_steps.specs.Stages.{unfilled, nodes_behind}
+use Rattle.idem_alloc.specs.commit_log.specs.next_steps.proofs.Stocks.{without_length}
 use Rattle.idem_alloc.specs.commit_log.specs.version_words.specs.RunnerState.{RunnerState}
 use Rattle.idem_alloc.specs.commit_log.specs.Runs.{IsRunning, Ran}
+use Rattle.idem_alloc.specs.commit_log.specs.Links.{with_links}
 use Rattle.idem_alloc.specs.commit_log.specs.Committed.{commits_loaded, HasCommitted}
+use Rattle.idem_alloc.specs.commit_log.proofs.Committing.{commit_blocks}
 use Rattle.idem_alloc.specs.commit_log.proofs.Next.{settled_at}
+use Rattle.idem_alloc.specs.commit_log.proofs.Running.{moved_layout}
 use Rattle.idem_cell.specs.Loaded.{MayLoad, HasLoaded}
 use Rattle.idem_cell.specs.Stored.{MayStore, HasStored}
 use Rattle.idem_alloc.specs.Made.{MayMake, HasMade}
 use Rattle.idem_alloc.specs.Retired.{MayRetire, HasRetired, nodes_retired}
 use Rattle.section_runs.specs.Reached.{run_of}
 use Rattle.section_runs.specs.Bodies.{NodesStepped, body_of, MayGo, GoesOn}
-use Rattle.section_runs.proofs.Going.{nodes_same, begins_here, stands, comes_next, arrives, same_run}
+use Rattle.section_runs.proofs.Going.{stock_same, nodes_same, begins_here, stands, comes_next, arrives, has_room, same_run}
 
 pub append_none : {A : Type 0} (xs : List A) → xs ++ [] ≡ xs
 append_none [] = refl
@@ -66,21 +71,28 @@ module _ {T : Type 0} (m : Meaning) (r : RunnerState T) where
       running = may.before.running;
       log = count may.n;
       next = comes_next m r may.n (Load place into) may.before may.here (micros.LoadCell place (count may.n)) refl refl refl;
+      room = has_room m r (Load place into) may;
     }
 
     pub load_goes : (agreed : ℕ) (new : RunnerState T) → HasLoaded m place agreed r new q → GoesOn m (Load place into) r new
     load_goes agreed new has =
         let q1 : RunState = goes_on m r.layout q has.found in
-        let layout : new.layout ≡ r.layout = ap (λ (y : RunnerState T). y.layout) has.commit.step.event.made ∙ ap (λ (y : RunnerState T). y.layout) has.load.event.made in
+        let k : RunState = with_links q1 has.between in
+        let layout : new.layout ≡ r.layout = ap (λ (y : RunnerState T). y.layout) has.commit.step.event.made ∙ (has.links.same.layout ∙ ap (λ (y : RunnerState T). y.layout) has.load.event.made) in
+        let running : IsRunning m new (agrees m r.layout k agreed) = subst (λ (y : RunState). IsRunning m new (agrees m r.layout y agreed)) has.links.line has.goes_on in
+        let kept : stock r.part q ≤ stock new.part k =
+        (let one = stock_same r.part has.middle.part q has.load.behind.blocks in
+        let two : stock has.middle.part q ≤ stock has.linked.part has.between = has.links.blocks in
+        let three = stock_same has.linked.part new.part has.between (commit_blocks m has.linked new has.between agreed has.first has.commit) in omega (arith, one, two, three)) in
         record {
           before = λ n before here.
               let there = stands m r n (Load place into) before here 1 (q.at + 1) refl (omega arith) refl in
               let at : q1.at ≡ q.at + 1 = ap (λ (y : RunState). y.at) (settled_at m r.layout (record q { at = q.at + 1; word = has.found }) (micros.Commit place (count n)) there refl) in
               let b = begins_here m r n (Load place into) before here refl in
-              arrives m r n (Load place into) before here new (record q1 { at = q1.at + 1; trail = q1.trail ++ agreed ∷ [] }) (agreed ∷ []) has.goes_on layout refl refl refl refl before.none before.unended
-              (omega (arith, at, b));
-          same = same_run m r new _ has.goes_on layout refl refl;
-          nodes = nodes_same (Load place into) r.part.nodes new.part.nodes (commit_nodes m has.middle new _ agreed has.first has.commit ∙ has.load.behind.nodes);
+              arrives m r n (Load place into) before here new (record k { at = q1.at + 1; trail = q1.trail ++ agreed ∷ [] }) (agreed ∷ []) running layout refl refl refl refl before.none before.unended
+              kept (omega (arith, at, b));
+          same = same_run m r new _ running layout refl refl;
+          nodes = nodes_same (Load place into) r.part.nodes new.part.nodes (commit_nodes m has.linked new has.between agreed has.first has.commit ∙ (has.links.same.nodes ∙ has.load.behind.nodes));
         }
 
   -- a Store, in place of the register's word
@@ -105,7 +117,7 @@ module _ {T : Type 0} (m : Meaning) (r : RunnerState T) where
           before = λ n before here.
               let b = begins_here m r n (Store reg value) before here refl in
               arrives m r n (Store reg value) before here new (record q { at = q.at + 1; word = q.word }) [] has.goes_on layout refl refl (sym (append_none q.trail)) refl before.none before.unended
-              (omega (arith, b));
+              (stock_same r.part new.part q has.step.behind.blocks) (omega (arith, b));
           same = same_run m r new _ has.goes_on layout refl refl;
           nodes = nodes_same (Store reg value) r.part.nodes new.part.nodes has.step.behind.nodes;
         }
@@ -117,6 +129,7 @@ module _ {T : Type 0} (m : Meaning) (r : RunnerState T) where
       running = may.before.running;
       log = count may.n;
       next = comes_next m r may.n (Retire slot) may.before may.here (micros.EpochForRetire slot (count may.n)) refl refl refl;
+      room = has_room m r (Retire slot) may;
     }
 
     retired : (first : Bool) (epoch : ℕ) (old new : NodesState) → new ≡ nodes_retired first old slot epoch → NodesStepped (Retire slot) old new
@@ -134,29 +147,25 @@ module _ {T : Type 0} (m : Meaning) (r : RunnerState T) where
     pub retire_goes : (new : RunnerState T) → HasRetired m slot r new q → GoesOn m (Retire slot) r new
     retire_goes new has =
         let q1 : RunState = goes_on m r.layout q has.epoch in
-        let layout : new.layout ≡ r.layout = ap (λ (y : RunnerState T). y.layout) has.commit.event.made ∙ ap (λ (y : RunnerState T). y.layout) has.load.event.made in
+        let k : RunState = with_links q1 has.between in
+        let layout : new.layout ≡ r.layout = ap (λ (y : RunnerState T). y.layout) has.commit.event.made ∙ (has.links.same.layout ∙ ap (λ (y : RunnerState T). y.layout) has.load.event.made) in
+        let running : IsRunning m new (agrees m r.layout k (slot + 1)) = subst (λ (y : RunState). IsRunning m new (agrees m r.layout y (slot + 1))) has.links.line has.goes_on in
+        let kept : stock r.part q ≤ stock new.part k =
+        (let one = stock_same r.part has.middle.part q has.load.behind.blocks in
+        let two : stock has.middle.part q ≤ stock has.linked.part has.between = has.links.blocks in
+        let three = stock_same has.linked.part new.part has.between has.commit.behind.blocks in omega (arith, one, two, three)) in
         record {
           before = λ n before here.
               let there = stands m r n (Retire slot) before here 1 (q.at + 1) refl (omega arith) refl in
               let at : q1.at ≡ q.at + 1 = ap (λ (y : RunState). y.at) (settled_at m r.layout (record q { at = q.at + 1; word = has.epoch }) (micros.RetireCommit slot (count n)) there refl) in
               let b = begins_here m r n (Retire slot) before here refl in
-              arrives m r n (Retire slot) before here new (record q1 { at = q1.at + 1; trail = q1.trail ++ (slot + 1) ∷ [] }) ((slot + 1) ∷ []) has.goes_on layout refl refl refl refl before.none before.unended
-              (omega (arith, at, b));
-          same = same_run m r new _ has.goes_on layout refl refl;
+              arrives m r n (Retire slot) before here new (record k { at = q1.at + 1; trail = q1.trail ++ (slot + 1) ∷ [] }) ((slot + 1) ∷ []) running layout refl refl refl refl before.none before.unended
+              kept (omega (arith, at, b));
+          same = same_run m r new _ running layout refl refl;
           nodes = retired has.first has.epoch r.part.nodes new.part.nodes has.nodes;
         }
 
--- a slot that is taken out of a list in which it stands once
-without_length : (xs : List ℕ) (d : ℕ) → length (without xs d) + times d xs ≡ length xs
-without_length [] d = refl
-without_length (x ∷ xs) d = by (x == d) (without_length xs d)
-  where
-    by : (b : Bool) → length (without xs d) + times d xs ≡ length xs
-        → length (if not b then x ∷ without xs d else without xs d) + cond b (1 + times d xs) (times d xs) ≡ suc (length xs)
-    by true rest = omega (arith, rest)
-    by false rest = omega (arith, rest)
-
--- or in which it doesn't stand
+-- a slot that is taken out of a list in which it doesn't stand
 without_none : (xs : List ℕ) (d : ℕ) → times d xs ≡ 0 → without xs d ≡ xs
 without_none [] d none = refl
 without_none (x ∷ xs) d none = by (x == d) none (without_none xs d)
@@ -246,7 +255,7 @@ module _ (init : Init) (into slot : ℕ) (n : NodesState) (once : times_among n 
 module _ {T : Type 0} (m : Meaning) where
   pub ran_layout : (n : ℕ) (a b : RunnerState T) → Ran m n a b → b.layout ≡ a.layout
   ran_layout zero a b same = ap (λ (y : RunnerState T). y.layout) same
-  ran_layout (suc n) a b ran = ran_layout n ran.0 b ran.5 ∙ ap (λ (y : RunnerState T). y.layout) ran.4.event.made
+  ran_layout (suc n) a b ran = ran_layout n ran.0 b ran.4 ∙ moved_layout m ran.1 ran.2 a ran.0 ran.3
 
   -- the slots of a runner's lists stand there once, in every state that the machine reaches
   pub lists_once : Laws m → (r : RunnerState T) → IsWithinLimits r.layout → AreAllowed r.requests → (q : RunState) → IsRunning m r q → (slot : ℕ) → times_among r.part.nodes slot ≤ 1
@@ -273,6 +282,7 @@ module _ {T : Type 0} (m : Meaning) (r : RunnerState T) (init : Init) (into : �
     };
     none = may.before.none;
     reserve = reserve;
+    room = has_room m r (Make init into) may;
     given = given;
   }
 
@@ -280,17 +290,28 @@ module _ {T : Type 0} (m : Meaning) (r : RunnerState T) (init : Init) (into : �
     abbrev full : RunState
     full = has.filled.behind
 
+    abbrev k : RunState
+    k = with_links full has.between
+
     abbrev last : RunState
-    last = record (unfilled full) { at = full.at + 1; trail = full.trail ++ (agreed + 1) ∷ [] }
+    last = record (unfilled k) { at = full.at + 1; trail = full.trail ++ (agreed + 1) ∷ [] }
 
     full_layout : has.full.layout ≡ r.layout
     full_layout = ran_layout m 10 r has.full has.filled.ran
 
     new_layout : new.layout ≡ r.layout
-    new_layout = ap (λ (y : RunnerState T). y.layout) has.commit.event.made ∙ full_layout
+    new_layout = ap (λ (y : RunnerState T). y.layout) has.commit.event.made ∙ (has.links.same.layout ∙ full_layout)
 
     running : IsRunning m new (settles m r.layout last)
-    running = subst (λ (l : Layout). IsRunning m new (settles m l last)) full_layout has.goes_on
+    running = subst (λ (l : Layout). IsRunning m new (settles m l last)) full_layout
+        (subst (λ (y : RunState). IsRunning m new (agrees m has.full.layout (unfilled y) (agreed + 1))) has.links.line has.goes_on)
+
+    stock_filled : stock has.full.part full ≡ stock r.part run
+    stock_filled = λ i. length (has.filled.links i) + (if is_some (has.filled.block i) then 1 else 0) + length (has.filled.blocks i).free
+
+    kept : stock r.part run ≤ stock new.part last
+    kept = let one = stock_filled in let two = has.links.blocks in
+        let three = stock_same has.linked.part new.part has.between has.commit.behind.blocks in omega (arith, one, two, three)
 
     pub make_goes : times_among r.part.nodes has.slot ≤ 1 → GoesOn m (Make init into) r new
     make_goes once = record {
@@ -298,7 +319,7 @@ module _ {T : Type 0} (m : Meaning) (r : RunnerState T) (init : Init) (into : �
           let b = begins_here m r n (Make init into) before here refl in
           let a = has.filled.at in
           arrives m r n (Make init into) before here new last ((agreed + 1) ∷ []) running new_layout has.filled.opened has.filled.descriptor
-          (ap (λ xs. xs ++ (agreed + 1) ∷ []) has.filled.trail) refl refl (has.filled.ended ∙ before.unended) (omega (arith, a, b));
+          (ap (λ xs. xs ++ (agreed + 1) ∷ []) has.filled.trail) refl refl (has.filled.ended ∙ before.unended) kept (omega (arith, a, b));
       same = same_run m r new _ running new_layout has.filled.opened has.filled.descriptor;
       nodes = made_stepped init into has.slot r.part.nodes once has.free has.first has.filled.behind.worn new.part.nodes has.nodes;
     }

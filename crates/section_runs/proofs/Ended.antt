@@ -13,7 +13,7 @@ use Rattle.idem_cell.specs.machine_states.specs.table_words.specs.Limits.{IsWith
 use Rattle.idem_cell.specs.machine_states.specs.table_words.specs.declared.layout.Layout.{Layout}
 use Rattle.idem_cell.specs.machine_states.specs.structure_laws.specs.Meaning.{Meaning}
 use Rattle.idem_cell.specs.machine_states.specs.structure_laws.specs.Laws.{Laws}
-use Rattle.idem_cell.specs.machine_states.specs.runner_parts.specs.State.{RunState, FinishedState, NodesState, ReadsState}
+use Rattle.idem_cell.specs.machine_states.specs.runner_parts.specs.State.{RunState, FinishedState, NodesState, BlocksState, ReadsState}
 use Rattle.idem_cell.specs.machine_states.specs.runner_parts.specs.Tests.{is_answered}
 use Rattle.idem_cell.specs.machine_states.specs.runner_steps.specs.AfterInRun.{ended_more, kept_unless, retired_if, finished_of}
 use Rattle.idem_cell.specs.machine_states.specs.runner_steps.specs.Outside.{is_sure_of}
@@ -25,13 +25,14 @@ use Rattle.idem_alloc.specs.commit_log.specs.Runs.{Ran}
 use Rattle.idem_alloc.specs.commit_log.proofs.Running.{ran_one, ran_more}
 use Rattle.section_runs.specs.Reached.{run_or, run_of, events_after}
 use Rattle.section_runs.specs.Opened.{Learns, ReadsOthers, HasOpened, StandsOpened, opening}
-use Rattle.section_runs.specs.Bodies.{NodesGone, body_of, HasWalked}
+use Rattle.section_runs.specs.Bodies.{body_blocks, body_links, NodesGone, body_of, HasWalked}
 use Rattle.section_runs.specs.Ends.{HasEnded}
 use Rattle.idem_cell.specs.machine_states.specs.Sight.{sight}
 use Rattle.idem_cell.specs.machine_states.specs.runner_steps.specs.After.{counted}
-use Rattle.section_runs.specs.Ended.{NodesRan, IsDone, EndsSo}
+use Rattle.section_runs.specs.Ended.{NodesRan, BlocksRan, IsDone, EndsSo}
 use Rattle.section_runs.proofs.Going.{run_is}
 use Rattle.section_runs.proofs.Staying.{Passed, learns_more, reads_more, still_of, step_events, step_learns, ran_passed, ran_own, events_more}
+use Rattle.section_runs.proofs.OwnBlocks.{Stands, stands_first, ran_stands, last_blocks}
 use Rattle.section_runs.proofs.Readings.{step_reads}
 use Rattle.section_runs.proofs.Walking.{sum_most, made_by, retired_by}
 use Rattle.section_runs.proofs.Facts.{EndShows, end_shows, end_rests}
@@ -93,6 +94,14 @@ module _ {T : Type 0} (m : Meaning) (laws : Laws m) (t : TableState T) (limits :
   new_own : IsOf t new
   new_own = still_of m laws t limits allowed last new last_own q _ ended.released.found ended.released.step
 
+  -- what it leaves of the own blocks
+  blocks : BlocksRan (body_blocks (m.body thunk)) d r1.part.blocks new.part.blocks
+  blocks = subst (λ k. BlocksRan (body_blocks (m.body thunk)) k r1.part.blocks new.part.blocks) q_descriptor
+      (subst (λ (x : Thunk). BlocksRan (body_blocks (m.body x)) q.descriptor r1.part.blocks new.part.blocks) q_thunk
+      (last_blocks m laws t limits allowed r1.part.blocks last new last_own q _ _ ended.released.found ended.released.step ended.released.over
+      (ran_stands m laws t limits allowed r1.part.blocks (made + ended.count) r1 last own (ran_more m made ended.count r1 r2 last went ended.ran) q ended.inside
+      (λ p is. subst (λ (y : RunState). Stands m r1.part.blocks r1 y) (sym (run_is m r1 p is ∙ run1)) (stands_first m r1 d opened.words)))))
+
   stage : new.part.stage ≡ r1.part.stage
   stage = ended.released.step.behind.stage ∙ passed.stays.stage
 
@@ -121,7 +130,7 @@ module _ {T : Type 0} (m : Meaning) (laws : Laws m) (t : TableState T) (limits :
   outcome_is = ap (λ (y : RunState). outcome_of m last.layout (ended_more y)) ended.on.run ∙ (ap (λ (l : Layout). outcome_of m l q2) ended.on.layout ∙ walked.over.outcome)
 
   pub ends_so : (old : RunnerState T) → HasOpened m d thunk late old r1 → (trail : Agreed) → trail.words ≡ q2.trail → trail.late ≡ late
-      → 13 + (made + (ended.count + 1)) ≤ cost_of (m.body thunk) → EndsSo m d thunk o trail (13 + (made + (ended.count + 1))) old new
+      → 13 + (made + (ended.count + 1)) ≤ cost_of (m.body thunk) + body_links (m.body thunk) → EndsSo m d thunk o trail (13 + (made + (ended.count + 1))) old new
   ends_so old hop trail words is_late_so few =
       let over = ended.released.over in
       let behind = ended.released.step.behind in
@@ -162,6 +171,7 @@ module _ {T : Type 0} (m : Meaning) (laws : Laws m) (t : TableState T) (limits :
             ∙ (λ i. retired_if ((passed.stays.descriptors ∙ hop.stays.descriptors) i) ((passed.stays.published ∙ hop.stays.published) i) (q_descriptor i)));
         nodes = subst (λ (ns : NodesState). NodesRan (m.body thunk) ns new.part.nodes) hop.nodes (subst (λ xs. NodesRan xs r1.part.nodes new.part.nodes) body1
             (nodes_ran (body_of m r1) walked.passed r1.part.nodes new.part.nodes (subst (NodesGone (body_of m r1) walked.passed r1.part.nodes) (sym (behind.nodes ∙ ended.on.nodes)) walked.nodes)));
+        blocks = subst (λ (x : BlocksState). BlocksRan (body_blocks (m.body thunk)) d x new.part.blocks) hop.blocks blocks;
         left_nodes = λ other. behind.nodes ∙ (ended.on.nodes ∙ (walked.left other ∙ hop.nodes));
         guards = guards ∙ hop.stays.guards;
         walk = ap (λ (s : ReadsState). s.walk) behind.reads ∙ (passed.stays.walk ∙ hop.stays.walk);

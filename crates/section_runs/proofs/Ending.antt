@@ -195,11 +195,11 @@ module _ {T : Type 0} (m : Meaning) (laws : Laws m) (t : TableState T) (limits :
     done_next = next_end m taken q over.no_event over.locks 0 over.unended
 
     pub may_finish : met_by m r kinds.SetDone ≡ Some (own_done r.part.run, Exchanges 0 1)
-    may_finish = may_make m laws t limits allowed r own q over.running micros.SetDone done_next refl
+    may_finish = may_make m laws t limits allowed r own q over.running micros.SetDone done_next refl refl
         ∙ ap (λ (x : Option RunState). Some (own_done x, Exchanges 0 1)) (sym over.running.inside.running)
 
     pub finishes : (found : ℕ) (new : RunnerState T) → Makes m kinds.SetDone found r new → Stepped m q micros.SetDone found r new
-    finishes found new made = then_made m laws t limits allowed r own q over.running micros.SetDone done_next refl found new made
+    finishes found new made = then_made m laws t limits allowed r own q over.running micros.SetDone done_next refl refl found new made
 
     pub finished : (found : ℕ) (new : RunnerState T) → Stepped m q micros.SetDone found r new → IsEnding m taken 0 new × EndsOn m r new
     finished found new step = behind taken 0 micros.SetDone found new step step.behind.run step.behind.nodes over.no_event over.locks
@@ -212,7 +212,7 @@ module _ {T : Type 0} (m : Meaning) (laws : Laws m) (t : TableState T) (limits :
   -- a release
   release_met : (place word : ℕ) (is : IsRunning m r q) → next_of m q ≡ micros.Release place word
       → met_by m r kinds.Release ≡ Some (spots.Cell place, Exchanges (held_by_run r.part.run word) (next_word (held_by_run r.part.run word) 0))
-  release_met place word is ahead = may_make m laws t limits allowed r own q is (micros.Release place word) ahead refl
+  release_met place word is ahead = may_make m laws t limits allowed r own q is (micros.Release place word) ahead refl refl
       ∙ ap (λ (x : Option RunState). Some (spots.Cell place, Exchanges (held_by_run x word) (next_word (held_by_run x word) 0))) (sym is.inside.running)
 
   -- that of a Take
@@ -227,7 +227,7 @@ module _ {T : Type 0} (m : Meaning) (laws : Laws m) (t : TableState T) (limits :
     may_release_take = release_met place word ending.running take_next_is
 
     pub releases_take : (found : ℕ) (new : RunnerState T) → Makes m kinds.Release found r new → Stepped m q (micros.Release place word) found r new
-    releases_take found new made = then_made m laws t limits allowed r own q ending.running (micros.Release place word) take_next_is refl found new made
+    releases_take found new made = then_made m laws t limits allowed r own q ending.running (micros.Release place word) take_next_is refl refl found new made
 
     pub released_take : (found : ℕ) (new : RunnerState T) → Stepped m q (micros.Release place word) found r new → IsEnding m taken (n + 1) new × EndsOn m r new
     released_take found new step =
@@ -275,7 +275,7 @@ module _ {T : Type 0} (m : Meaning) (laws : Laws m) (t : TableState T) (limits :
     pub has_released : (found : ℕ) (new : RunnerState T) → Makes m kinds.Release found r new → HasReleased m r new
     has_released found new made = record {
       found = found;
-      step = then_made m laws t limits allowed r own q ending.running (micros.Release (thunk_of q.opened).lock (thunk_of q.opened).word) last_next refl found new made;
+      step = then_made m laws t limits allowed r own q ending.running (micros.Release (thunk_of q.opened).lock (thunk_of q.opened).word) last_next refl refl found new made;
       over = ap is_end (next_end m taken (ended_more q) ending.no_event ending.locks (suc (suc (length (taken_releases (take taken body)))))
           (let e = ending.ended in let c = release_count (take taken body) in omega (arith, e, c))
           ∙ past_last (taken_releases (take taken body)) (micros.Release (thunk_of q.opened).lock (thunk_of q.opened).word));

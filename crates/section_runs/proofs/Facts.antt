@@ -7,10 +7,10 @@ use Rattle.idem_cell.specs.machine_states.specs.body_terms.specs.declared.thunk.
 use Rattle.idem_cell.specs.machine_states.specs.body_terms.specs.Line.{is_end}
 use Rattle.idem_cell.specs.machine_states.specs.body_terms.specs.Plain.{first_values}
 use Rattle.idem_cell.specs.machine_states.specs.table_words.specs.Limits.{IsWithinLimits}
-use Rattle.idem_cell.specs.machine_states.specs.table_words.specs.declared.spot.Spot.TheVariants as spots
 use Rattle.idem_cell.specs.machine_states.specs.structure_laws.specs.Meaning.{Meaning}
 use Rattle.idem_cell.specs.machine_states.specs.structure_laws.specs.Laws.{Laws}
 use Rattle.idem_cell.specs.machine_states.specs.runner_parts.specs.declared.event.EventKind.TheVariants as kinds
+use Rattle.idem_cell.specs.machine_states.specs.runner_parts.specs.block_words.specs.Blocks.{log_in}
 use Rattle.idem_cell.specs.machine_states.specs.runner_parts.specs.declared.event.Event.{Event}
 use Rattle.idem_cell.specs.machine_states.specs.runner_parts.specs.State.{RunState, FinishedState, PartState}
 use Rattle.idem_cell.specs.machine_states.specs.runner_steps.specs.Outside.{is_sure_of}
@@ -36,7 +36,7 @@ use Rattle.idem_alloc.specs.commit_log.specs.Runs.{Stepped}
 use Rattle.section_runs.specs.Reached.{IsReached}
 use Rattle.section_runs.specs.Ended.{IsDone}
 use mathlib.Core.Path.{fun_ext}
-use Rattle.nested_lock.specs.machine_facts.specs.machine_invariant.proofs.Holding.{own_words}
+use Rattle.nested_lock.specs.machine_facts.specs.machine_invariant.specs.machine_blocks.proofs.Holding.{log_read}
 
 -- what is held is out of its lists
 kept_out : (x : Location) (g : ℕ) → IsKept x g → is_out x ≡ true
@@ -103,10 +103,13 @@ module _ {T : Type 0} (m : Meaning) (laws : Laws m) (last new : RunnerState T) (
   end_rests = (all.there.sound.sections.joined.tied new.number).rests q runs step.running.opened
 
   -- the runner is sure of the descriptor, so the section is still in it
+  sure1 : is_sure_of (s1.part new.number).guards q.descriptor ≡ true
+  sure1 = ap (λ (p : PartState). is_sure_of p.guards q.descriptor) part1 ∙ sure
+
   used1 : all.after.agreement.used q.descriptor ≡ true
   used1 =
       let slots = all.here.sound.slots in
-      let is_held = slots.in_held.named new.number q.descriptor (ap (λ (p : PartState). is_sure_of p.guards q.descriptor) part1 ∙ sure) in
+      let is_held = slots.in_held.named new.number q.descriptor sure1 in
       let kept = slots.in_held.kept new.number (node_count m new.layout + q.descriptor) is_held in
       all.here.sound.used q.descriptor ∙ kept_out (all.after.epochs.location (node_count m new.layout + q.descriptor)) kept.0 kept.2
 
@@ -127,8 +130,9 @@ module _ {T : Type 0} (m : Meaning) (laws : Laws m) (last new : RunnerState T) (
   pub end_shows : EndShows m q.descriptor (thunk_of q.opened) f new
   end_shows =
       let trails = all.here.sound.sections.in_trails in
-      let log : ℕ → ℕ = λ k. s1.word (spots.LogWord q.descriptor k) in
-      let stands : (all.after.agreement.section q.descriptor).log ≡ log = fun_ext (λ k. sym (own_words m new.layout all.here.sound.logs q.descriptor k)) in
+      let log : ℕ → ℕ = log_in s1.word q.descriptor in
+      let read : (k : ℕ) → log k ≡ (all.after.agreement.section q.descriptor).log k = log_read m new.layout all.here.sound.logs new.number q.descriptor sure1 in
+      let stands : (all.after.agreement.section q.descriptor).log ≡ log = fun_ext (λ k. sym (read k)) in
       let whole = trails.whole new.number q.descriptor f used1 ends_there
       ∙ ap (first_values (agreed_words m all.after.agreement s1 q.descriptor)) stands in
       let many = ap length whole ∙ length_values _ log in
@@ -139,7 +143,7 @@ module _ {T : Type 0} (m : Meaning) (laws : Laws m) (last new : RunnerState T) (
           done = trails.done new.number q.descriptor f used1 ends_there;
           unnamed = λ p lock. all.here.sound.sections.in_locks.unnamed new.number q.descriptor p f used1 ends_there lock;
           whole = whole ∙ ap (λ n. first_values n log) (sym many);
-          over = λ k low. own_words m new.layout all.here.sound.logs q.descriptor k ∙ trails.empty q.descriptor k used1 (subst (λ n. n ≤ k) many low);
+          over = λ k low. read k ∙ trails.empty q.descriptor k used1 (subst (λ n. n ≤ k) many low);
         };
         components = all.after;
         facts = all.here;

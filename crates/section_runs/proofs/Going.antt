@@ -1,4 +1,5 @@
 -- A run goes on from one step of its body to the next one.
+use Rattle.std.specs.Prelude.{is_some, if◌then◌else◌}
 use Rattle.std.proofs.Common.{◌≡◌, ℕ, suc, ◌+◌, ◌<◌, ◌≤◌, List, [], ◌++◌, length, length-append, true, false, refl, sym, ap, ◌∙◌, subst, arith, None}
 use Rattle.idem_cell.specs.section_lines.specs.small_lemmas.proofs.Lists.{append_none}
 use Rattle.idem_cell.specs.machine_states.specs.body_terms.specs.declared.micro.Micro.{Micro}
@@ -7,7 +8,7 @@ use Rattle.idem_cell.specs.machine_states.specs.body_terms.specs.Line.{Registers
 use Rattle.idem_cell.specs.machine_states.specs.body_terms.specs.Run.{settled}
 use Rattle.idem_cell.specs.machine_states.specs.body_terms.specs.Shape.{IsStep, IsShaped}
 use Rattle.idem_cell.specs.machine_states.specs.body_terms.proofs.LineLemmas.{micro_within, begins_next, registers_before_next, count_after}
-use Rattle.idem_cell.specs.machine_states.specs.body_terms.proofs.RegisterLemmas.{count_le}
+use Rattle.idem_cell.specs.machine_states.specs.body_terms.proofs.RegisterLemmas.{count_le, count_rises}
 use Rattle.idem_cell.specs.section_lines.specs.Rests.{is_test, rests}
 use Rattle.idem_cell.specs.section_lines.proofs.Places.{step_inside}
 use Rattle.idem_cell.specs.section_lines.proofs.Progress.{some_micros}
@@ -15,16 +16,19 @@ use Rattle.idem_cell.specs.section_lines.proofs.Resting.{run_rests}
 use Rattle.idem_cell.specs.machine_states.specs.table_words.specs.Limits.{IsWithinLimits}
 use Rattle.idem_cell.specs.machine_states.specs.structure_laws.specs.Meaning.{Meaning}
 use Rattle.idem_cell.specs.machine_states.specs.structure_laws.specs.Laws.{Laws}
-use Rattle.idem_cell.specs.machine_states.specs.runner_parts.specs.State.{RunState, NodesState}
+use Rattle.idem_cell.specs.machine_states.specs.runner_parts.specs.block_words.specs.Blocks.{blocks_for}
+use Rattle.idem_cell.specs.machine_states.specs.runner_parts.specs.State.{RunState, NodesState, BlocksState, PartState}
 use Rattle.idem_cell.specs.machine_states.specs.runner_steps.specs.Sections.{thunk_of, line_of, next_of, setting_of, settles}
 use Rattle.nested_lock.specs.machine_facts.specs.machine_invariant.specs.After.{AreAllowed}
+use Rattle.idem_alloc.specs.commit_log.specs.next_steps.specs.Steps.{stock}
 use Rattle.idem_alloc.specs.commit_log.specs.next_steps.proofs.Stages.{in_table}
 use Rattle.idem_alloc.specs.commit_log.specs.version_words.specs.RunnerState.{RunnerState}
 use Rattle.idem_alloc.specs.commit_log.specs.version_words.specs.TableState.{TableState, IsOf}
 use Rattle.idem_alloc.specs.commit_log.specs.Runs.{IsRunning}
+use Rattle.idem_alloc.specs.commit_log.specs.Links.{HasRoom}
 use Rattle.idem_alloc.specs.commit_log.proofs.Next.{next_here}
 use Rattle.section_runs.specs.Reached.{run_or, run_of}
-use Rattle.section_runs.specs.Bodies.{NodesStepped, body_of, StandsBefore, IsBefore, MayGo, IsSameRun}
+use Rattle.section_runs.specs.Bodies.{body_words, body_blocks, NodesStepped, body_of, StandsBefore, IsBefore, MayGo, IsSameRun}
 
 -- the run that a runner is in
 pub run_is : {T : Type 0} (m : Meaning) (r : RunnerState T) (q : RunState) → IsRunning m r q → q ≡ run_of r
@@ -41,6 +45,18 @@ nodes_same step old new e = subst (NodesStepped step old) (sym e) (record {
   few = omega arith;
   same = λ make retire. refl;
 })
+
+-- blocks that a step left as they were
+pub stock_same : (p p' : PartState) (q : RunState) → p'.blocks ≡ p.blocks → stock p q ≤ stock p' q
+stock_same p p' q same =
+    let e : stock p' q ≡ stock p q = ap (λ (b : BlocksState). length q.links + (if is_some q.block then 1 else 0) + length b.free) same in omega (arith, e)
+
+-- room for all words is room for some
+room_rises : (a b c d : ℕ) → a ≡ b → b ≤ c → c ≤ d → a ≤ d
+room_rises a b c d same low kept = omega (arith, same, low, kept)
+
+room_for : (some all has : ℕ) → some ≤ all → blocks_for all ≤ has → blocks_for some ≤ has
+room_for some all has low room = omega (arith, low, room)
 
 module _ {T : Type 0} (m : Meaning) (r : RunnerState T) (n : ℕ) (step : Step) (before : IsBefore m n r) (here : IsStep (body_of m r) n step) where
   abbrev q : RunState
@@ -64,10 +80,10 @@ module _ {T : Type 0} (m : Meaning) (r : RunnerState T) (n : ℕ) (step : Step) 
 
   -- where a run comes to the next step
   pub arrives_at : (new : RunnerState T) (q0 : RunState) (words : List ℕ) → IsRunning m new (settles m r.layout q0) → new.layout ≡ r.layout
-      → q0.opened ≡ q.opened → q0.descriptor ≡ q.descriptor → q0.trail ≡ q.trail ++ words → length words ≡ log_words step → q0.made ≡ None → q0.ended ≡ 0
+      → q0.opened ≡ q.opened → q0.descriptor ≡ q.descriptor → q0.trail ≡ q.trail ++ words → length words ≡ log_words step → q0.made ≡ None → q0.ended ≡ 0 → stock r.part q ≤ stock new.part q0
       → settled (setting_of r.layout q0.descriptor) q0.trail (line_of m q0) q0.at ≡ rests (setting_of r.layout q0.descriptor) q0.trail (body_of m r) (suc n)
       → IsBefore m (suc n) new
-  arrives_at new q0 words running layout opened descriptor trail many none unended at =
+  arrives_at new q0 words running layout opened descriptor trail many none unended kept at =
       subst (StandsBefore m (suc n) new) (run_is m new (settles m r.layout q0) running) (record {
         running = running;
         at = at ∙ (λ i. rests (setting_of (sym layout i) q0.descriptor) q0.trail (m.body (thunk_of (sym opened i))) (suc n));
@@ -77,15 +93,31 @@ module _ {T : Type 0} (m : Meaning) (r : RunnerState T) (n : ℕ) (step : Step) 
             ∙ ap (λ xs. (registers_before (m.body (thunk_of xs)) (suc n)).count) (sym opened))));
         none = none;
         unended = unended;
+        room = room_rises (body_blocks (m.body (thunk_of q0.opened))) (body_blocks (body_of m r)) (stock r.part q) (stock new.part q0)
+            (ap (λ xs. body_blocks (m.body (thunk_of xs))) opened) before.room kept;
       })
 
   -- as behind its last atomic step
   pub arrives : (new : RunnerState T) (q0 : RunState) (words : List ℕ) → IsRunning m new (settles m r.layout q0) → new.layout ≡ r.layout
-      → q0.opened ≡ q.opened → q0.descriptor ≡ q.descriptor → q0.trail ≡ q.trail ++ words → length words ≡ log_words step → q0.made ≡ None → q0.ended ≡ 0
+      → q0.opened ≡ q.opened → q0.descriptor ≡ q.descriptor → q0.trail ≡ q.trail ++ words → length words ≡ log_words step → q0.made ≡ None → q0.ended ≡ 0 → stock r.part q ≤ stock new.part q0
       → q0.at ≡ begins (body_of m r) n + micro_count step → IsBefore m (suc n) new
-  arrives new q0 words running layout opened descriptor trail many none unended at =
-      arrives_at new q0 words running layout opened descriptor trail many none unended
+  arrives new q0 words running layout opened descriptor trail many none unended kept at =
+      arrives_at new q0 words running layout opened descriptor trail many none unended kept
       (λ i. settled (setting_of r.layout q0.descriptor) q0.trail (line (m.body (thunk_of (opened i)))) ((at ∙ sym (begins_next (body_of m r) n step here)) i))
+
+-- the log of the body has a word for each on which a step agrees, so there are blocks for them
+module _ {T : Type 0} (m : Meaning) (r : RunnerState T) (step : Step) (may : MayGo m step r) where
+  words_fit : length (run_of r).trail + log_words step ≤ body_words (body_of m r)
+  words_fit =
+      let body = body_of m r in
+      let next = ap (λ (g : Registers). g.count) (registers_before_next body may.n step may.here) ∙ count_after (registers_before body may.n) step in
+      let inside = step_inside body may.n step may.here in
+      let rises = count_rises body (suc may.n) (length body) (omega (arith, inside)) (omega arith) in
+      let count = may.before.count in
+      omega (arith, next, rises, count)
+
+  pub has_room : HasRoom (log_words step) r.part (run_of r)
+  has_room = room_for (length (run_of r).trail + log_words step) (body_words (body_of m r)) (stock r.part (run_of r)) words_fit may.before.room
 
 -- and stays in its run
 pub same_run : {T : Type 0} (m : Meaning) (old new : RunnerState T) (q : RunState) → IsRunning m new q → new.layout ≡ old.layout

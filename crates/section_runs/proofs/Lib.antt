@@ -1,8 +1,11 @@
+pub mod Blocks
 pub mod Apart
 pub mod Records
 pub mod Noted
 pub mod Readings
+pub mod Linked
 pub mod Staying
+pub mod OwnBlocks
 pub mod Opening
 pub mod Going
 pub mod Cases

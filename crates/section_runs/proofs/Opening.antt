@@ -4,6 +4,7 @@ use Rattle.std.specs.Prelude.{◌==◌, ◌&&◌, nat_lt, if◌then◌else◌}
 use Rattle.std.proofs.lemmas.Bool.{and_parts}
 use Rattle.std.proofs.lemmas.Bool.Decides.{nat_tests}
 use Rattle.idem_cell.specs.machine_states.specs.body_terms.specs.declared.thunk.Thunk.{Thunk}
+use Rattle.idem_cell.specs.machine_states.specs.table_words.specs.declared.layout.Layout.{Layout}
 use Rattle.idem_cell.specs.machine_states.specs.table_words.specs.declared.sizes.Sizes.{Sizes}
 use Rattle.idem_cell.specs.machine_states.specs.table_words.proofs.Seen.{fits_is}
 use Rattle.idem_cell.specs.machine_states.specs.table_words.specs.Limits.{IsWithinLimits}
@@ -14,11 +15,12 @@ use Rattle.idem_cell.specs.machine_states.specs.structure_laws.specs.Meaning.{Me
 use Rattle.idem_cell.specs.machine_states.specs.structure_laws.specs.Laws.{Laws}
 use Rattle.idem_cell.specs.machine_states.specs.runner_parts.specs.declared.event.EventKind.{EventKind}
 use Rattle.idem_cell.specs.machine_states.specs.runner_parts.specs.declared.event.EventKind.TheVariants as kinds
-use Rattle.idem_cell.specs.machine_states.specs.runner_parts.specs.State.{RunState, GuardsState, PartState}
+use Rattle.idem_cell.specs.machine_states.specs.runner_parts.specs.State.{RunState, BlocksState, GuardsState, PartState}
 use Rattle.idem_cell.specs.machine_states.specs.runner_parts.specs.Tests.{is_walking}
 use Rattle.idem_cell.specs.machine_states.specs.runner_steps.specs.Outside.{when, is_sure_of}
 use Rattle.idem_cell.specs.machine_states.specs.runner_steps.specs.Asks.{ask_by, fitting, sizes_for}
-use Rattle.idem_cell.specs.machine_states.specs.runner_steps.specs.Sections.{thunk_of, is_late, next_of}
+use Rattle.idem_cell.specs.machine_states.specs.runner_steps.specs.Blocks.{blocks_after}
+use Rattle.idem_cell.specs.machine_states.specs.runner_steps.specs.Sections.{thunk_of, is_open_run, is_late, next_of}
 use Rattle.idem_cell.specs.machine_states.specs.runner_steps.specs.AfterInRun.{with_run, opened_more}
 use Rattle.idem_cell.specs.machine_states.specs.runner_steps.specs.After.{after_by, line_after, counted}
 use Rattle.nested_lock.specs.machine_facts.specs.machine_agreement.proofs.LineKinds.{noted_finished}
@@ -58,6 +60,18 @@ high_test n e = grind (arith, nat_tests)
 events_last : (count n : ℕ) → counted (events_after count n) ≡ events_after count (suc n)
 events_last count zero = refl
 events_last count (suc n) = events_last (counted count) n
+
+either : (b : Bool) (x : BlocksState) → (if b then x else x) ≡ x
+either true x = refl
+either false x = refl
+
+-- a load of the opening changes no block
+opening_blocks : (m : Meaning) (l : Layout) (kind : EventKind) (p : PartState) (o : Option RunState) (found : ℕ) → is_opening kind ≡ true → blocks_after m l kind p o found ≡ p.blocks
+opening_blocks m l (kinds.LoadThunk descriptor) p None found e = refl
+opening_blocks m l (kinds.LoadThunk descriptor) p (Some q) found e = either (is_open_run q) p.blocks
+opening_blocks m l kinds.LoadDone p None found e = refl
+opening_blocks m l kinds.LoadDone p (Some q) found e = either (is_open_run q) p.blocks
+opening_blocks m l _ p o found e = absurd (let z = e in cc)
 
 module _ {T : Type 0} (m : Meaning) (laws : Laws m) (t : TableState T) (limits : IsWithinLimits t.layout) (allowed : AreAllowed t.requests) (old : RunnerState T) (d : ℕ) (may : MayBegin m old d) where
   module _ (n : ℕ) (words : List ℕ) (r : RunnerState T) (own : IsOf t r) (is : IsOpening m n d words old r) where
@@ -155,6 +169,7 @@ module _ {T : Type 0} (m : Meaning) (laws : Laws m) (t : TableState T) (limits :
               look = ap (λ (p : PartState). p.reads.look) part;
             });
             nodes = ap (λ (p : PartState). p.nodes) part ∙ is.nodes;
+            blocks = ap (λ (p : PartState). p.blocks) part ∙ (opening_blocks m r.layout kind r.part r.part.run found load ∙ is.blocks);
             reads = ap (λ (p : PartState). p.reads) part ∙ is.reads;
             known = ap (λ (p : PartState). p.records.known) part ∙ (noted_known r.layout r.number kind made.met.0 made.met.1 found r.part.records ∙ is.known);
             events = ap (λ (p : PartState). p.records.events) part
@@ -198,13 +213,14 @@ module _ {T : Type 0} (m : Meaning) (laws : Laws m) (t : TableState T) (limits :
           own = all.reached.own;
         } in
         record {
-          inside = subst (λ (q : RunState). IsRunning m r' q) (ap run_or (sym all.run)) (record { inside = running; opened = all.count ∙ ap suc e });
+          inside = subst (λ (q : RunState). IsRunning m r' q) (ap run_or (sym all.run)) (record { inside = running; opened = all.count ∙ ap suc e; enough = omega arith });
           words = words ++ found ∷ [];
           run = all.run;
           thunk = sym is_thunk;
           found = sym is_found;
           stays = all.stays;
           nodes = all.nodes;
+          blocks = all.blocks;
           reads = all.reads;
           known = all.known;
           events = all.events ∙ ap (λ k. events_after old.part.records.events (suc k)) e;

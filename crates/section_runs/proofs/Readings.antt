@@ -76,7 +76,7 @@ module _ {T : Type 0} (m : Meaning) (laws : Laws m) (t : TableState T) (limits :
     one place access has asks told cells = subst Reads (sym cells) (reads_one thunk.lock thunk.word a.part.reads.cells (place, found) other)
       where
         met : step.event.met ≡ (spots.Cell place, access)
-        met = some_same _ _ (sym step.event.asked ∙ may_make m laws t limits allowed a own q step.running micro step.next has) ∙ asks
+        met = some_same _ _ (sym step.event.asked ∙ may_make m laws t limits allowed a own q step.running micro step.next step.linked has) ∙ asks
 
         read : s.word (spots.Cell place) ≡ found
         read = ap (λ (x : Spot × Access). s.word x.0) (sym met) ∙ step.event.shown.was_found (ap (λ (x : Spot × Access). is_told x.1) met ∙ told)

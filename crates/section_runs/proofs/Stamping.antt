@@ -32,7 +32,7 @@ use Rattle.idem_alloc.specs.commit_log.proofs.Next.{settled_at, settled_next}
 use Rattle.idem_alloc.specs.commit_log.proofs.Running.{may_make, asked_there, then_made, ran_one, ran_more}
 use Rattle.section_runs.specs.Reached.{run_of}
 use Rattle.section_runs.specs.Bodies.{body_of, MayGo, GoesOn}
-use Rattle.section_runs.proofs.Going.{run_is, nodes_same, begins_here, stands, comes_next, arrives, same_run}
+use Rattle.section_runs.proofs.Going.{run_is, stock_same, nodes_same, begins_here, stands, comes_next, arrives, same_run}
 use Rattle.section_runs.proofs.Cases.{append_none}
 
 module _ {T : Type 0} (m : Meaning) (laws : Laws m) (t : TableState T) (limits : IsWithinLimits t.layout) (allowed : AreAllowed t.requests) (r : RunnerState T) (own : IsOf t r) where
@@ -51,10 +51,10 @@ module _ {T : Type 0} (m : Meaning) (laws : Laws m) (t : TableState T) (limits :
     clock_next = comes_next m r may.n Stamp may.before may.here micros.ClockLoad refl refl refl
 
     pub may_load : met_by m r kinds.ClockLoad ≡ Some (spots.Clock, Loads)
-    may_load = may_make m laws t limits allowed r own q may.before.running micros.ClockLoad clock_next refl
+    may_load = may_make m laws t limits allowed r own q may.before.running micros.ClockLoad clock_next refl refl
 
     pub loads : (clock : ℕ) (r1 : RunnerState T) → Makes m kinds.ClockLoad clock r r1 → Stepped m q micros.ClockLoad clock r r1
-    loads clock r1 made = then_made m laws t limits allowed r own q may.before.running micros.ClockLoad clock_next refl clock r1 made
+    loads clock r1 made = then_made m laws t limits allowed r own q may.before.running micros.ClockLoad clock_next refl refl clock r1 made
 
     module _ (clock : ℕ) (r1 : RunnerState T) (own1 : IsOf t r1) (load : Stepped m q micros.ClockLoad clock r r1) where
       abbrev q1 : RunState
@@ -76,15 +76,15 @@ module _ {T : Type 0} (m : Meaning) (laws : Laws m) (t : TableState T) (limits :
       q1_at = ap (λ (y : RunState). y.at) (settled_at m l (record q { at = q.at + 1; word = clock }) micros.StampExchange exchange_there refl)
 
       pub few_clock : clock < 2 ^ 62
-      few_clock = low clock last_clock (if_some _ _ _ (asked_there m laws t limits allowed r1 own1 q1 running1 micros.StampExchange exchange_next refl)).0
+      few_clock = low clock last_clock (if_some _ _ _ (asked_there m laws t limits allowed r1 own1 q1 running1 micros.StampExchange exchange_next refl refl)).0
 
       pub may_exchange : (stamp : ℕ) → stamp ≡ 2 * (clock + 1) → met_by m r1 kinds.StampExchange ≡ Some (own_stamp r1.part.run, Exchanges 0 stamp)
-      may_exchange stamp e = may_make m laws t limits allowed r1 own1 q1 running1 micros.StampExchange exchange_next refl
+      may_exchange stamp e = may_make m laws t limits allowed r1 own1 q1 running1 micros.StampExchange exchange_next refl refl
           ∙ ((λ i. Some (spots.Stamp ((thunk_of q1.opened).request), Exchanges 0 (sym e i)))
           ∙ ap (λ (o : Option RunState). Some (own_stamp o, Exchanges 0 stamp)) (sym running1.inside.running))
 
       pub exchanges : (found : ℕ) (r2 : RunnerState T) → Makes m kinds.StampExchange found r1 r2 → Stepped m q1 micros.StampExchange found r1 r2
-      exchanges found r2 made = then_made m laws t limits allowed r1 own1 q1 running1 micros.StampExchange exchange_next refl found r2 made
+      exchanges found r2 made = then_made m laws t limits allowed r1 own1 q1 running1 micros.StampExchange exchange_next refl refl found r2 made
 
       pub stamp_is : (given stamp : ℕ) → given ≡ 2 * (clock + 1) → (r2 : RunnerState T) (made : Leaves m kinds.StampExchange stamp r1 r2) → stamp ≡ written_once made.found (stamp_after clock)
       stamp_is given stamp e r2 made =
@@ -114,10 +114,10 @@ module _ {T : Type 0} (m : Meaning) (laws : Laws m) (t : TableState T) (limits :
         q2_at = ap (λ (y : RunState). y.at) (settled_at m l (record q1 { at = q1.at + 1; word = stamp }) micros.ClockRaise raise_there refl) ∙ (let a = q1_at in omega (arith, a))
 
         pub may_raise : (number : ℕ) → number ≡ stamp / 2 → met_by m r2 kinds.ClockRaise ≡ Some (spots.Clock, Raises number)
-        may_raise number e = may_make m laws t limits allowed r2 own2 q2 running2 micros.ClockRaise raise_next refl ∙ ap (λ n. Some (spots.Clock, Raises n)) (sym e)
+        may_raise number e = may_make m laws t limits allowed r2 own2 q2 running2 micros.ClockRaise raise_next refl refl ∙ ap (λ n. Some (spots.Clock, Raises n)) (sym e)
 
         pub raises : (other : ℕ) (r3 : RunnerState T) → Makes m kinds.ClockRaise other r2 r3 → Stepped m q2 micros.ClockRaise other r2 r3
-        raises other r3 made = then_made m laws t limits allowed r2 own2 q2 running2 micros.ClockRaise raise_next refl other r3 made
+        raises other r3 made = then_made m laws t limits allowed r2 own2 q2 running2 micros.ClockRaise raise_next refl refl other r3 made
 
         module _ (other : ℕ) (r3 : RunnerState T) (raise : Stepped m q2 micros.ClockRaise other r2 r3) where
           abbrev last : RunState
@@ -137,7 +137,8 @@ module _ {T : Type 0} (m : Meaning) (laws : Laws m) (t : TableState T) (limits :
             before = λ n before here.
                 let b = begins_here m r n Stamp before here refl in
                 let a = q2_at in
-                arrives m r n Stamp before here r3 last [] running3 layout3 refl refl (sym (append_none q.trail)) refl before.none before.unended (omega (arith, a, b));
+                arrives m r n Stamp before here r3 last [] running3 layout3 refl refl (sym (append_none q.trail)) refl before.none before.unended
+                (stock_same r.part r3.part q (raise.behind.blocks ∙ (exchange.behind.blocks ∙ load.behind.blocks))) (omega (arith, a, b));
             same = same_run m r r3 _ running3 layout3 refl refl;
             nodes = nodes_same Stamp r.part.nodes r3.part.nodes (raise.behind.nodes ∙ (exchange.behind.nodes ∙ load.behind.nodes));
           }
@@ -151,11 +152,11 @@ module _ {T : Type 0} (m : Meaning) (laws : Laws m) (t : TableState T) (limits :
     answer_next = comes_next m r may.n (Answer reply) may.before may.here (micros.ReplyExchange reply) refl refl refl
 
     pub may_answer : met_by m r kinds.ReplyExchange ≡ Some (own_reply r.part.run, Exchanges 0 reply)
-    may_answer = may_make m laws t limits allowed r own q may.before.running (micros.ReplyExchange reply) answer_next refl
+    may_answer = may_make m laws t limits allowed r own q may.before.running (micros.ReplyExchange reply) answer_next refl refl
         ∙ ap (λ (o : Option RunState). Some (own_reply o, Exchanges 0 reply)) (sym may.before.running.inside.running)
 
     pub answers : (found : ℕ) (r1 : RunnerState T) → Makes m kinds.ReplyExchange found r r1 → Stepped m q (micros.ReplyExchange reply) found r r1
-    answers found r1 made = then_made m laws t limits allowed r own q may.before.running (micros.ReplyExchange reply) answer_next refl found r1 made
+    answers found r1 made = then_made m laws t limits allowed r own q may.before.running (micros.ReplyExchange reply) answer_next refl refl found r1 made
 
     module _ (found : ℕ) (r1 : RunnerState T) (answer : Stepped m q (micros.ReplyExchange reply) found r r1) where
       layout_answered : r1.layout ≡ l
@@ -168,7 +169,8 @@ module _ {T : Type 0} (m : Meaning) (laws : Laws m) (t : TableState T) (limits :
       answer_goes = record {
         before = λ n before here.
             let b = begins_here m r n (Answer reply) before here refl in
-            arrives m r n (Answer reply) before here r1 (record q { at = q.at + 1; word = q.word }) [] running_answered layout_answered refl refl (sym (append_none q.trail)) refl before.none before.unended (omega (arith, b));
+            arrives m r n (Answer reply) before here r1 (record q { at = q.at + 1; word = q.word }) [] running_answered layout_answered refl refl (sym (append_none q.trail)) refl before.none before.unended
+            (stock_same r.part r1.part q answer.behind.blocks) (omega (arith, b));
         same = same_run m r r1 _ running_answered layout_answered refl refl;
         nodes = nodes_same (Answer reply) r.part.nodes r1.part.nodes answer.behind.nodes;
       }

@@ -1,5 +1,5 @@
 -- What no step of a run changes but the last one, and how its steps are counted.
-use Rattle.std.proofs.Common.{◌≡◌, ◌≢◌, ℕ, zero, suc, ◌+◌, List, [], ◌∷◌, ◌++◌, Bool, true, false, refl, sym, ap, ◌∙◌, subst, arith, Some, None, append_assoc}
+use Rattle.std.proofs.Common.{◌≡◌, ◌≢◌, ℕ, zero, suc, ◌+◌, inl, inr, List, [], ◌∷◌, ◌++◌, Bool, true, false, refl, sym, ap, ◌∙◌, subst, arith, Some, None, append_assoc}
 use Rattle.std.specs.Prelude.{slice_get, if◌then◌else◌}
 use Rattle.idem_cell.specs.machine_states.specs.body_terms.specs.declared.micro.Micro.{Micro}
 use Rattle.idem_cell.specs.machine_states.specs.body_terms.specs.declared.micro.Micro.TheVariants as micros
@@ -22,12 +22,13 @@ use Rattle.idem_alloc.specs.commit_log.specs.next_steps.specs.Stages.{run_behind
 use Rattle.idem_alloc.specs.commit_log.specs.next_steps.proofs.Stages.{in_table}
 use Rattle.idem_alloc.specs.commit_log.specs.version_words.specs.RunnerState.{RunnerState}
 use Rattle.idem_alloc.specs.commit_log.specs.version_words.specs.TableState.{TableState, IsOf}
-use Rattle.idem_alloc.specs.commit_log.specs.Runs.{IsRunning, Stepped, Ran}
-use Rattle.idem_alloc.specs.commit_log.proofs.Running.{opened_stays, one_run}
+use Rattle.idem_alloc.specs.commit_log.specs.Runs.{IsRunning, Stepped, Moved, Ran}
+use Rattle.idem_alloc.specs.commit_log.proofs.Running.{opened_stays, moved_running, one_run}
 use Rattle.section_runs.specs.Reached.{events_after}
 use Rattle.section_runs.specs.Opened.{Stays, Learns, ReadsOthers}
 use Rattle.section_runs.proofs.Noted.{noting, after_line}
 use Rattle.section_runs.proofs.Readings.{reads_none, step_reads}
+use Rattle.section_runs.proofs.Linked.{link_line, link_own, link_stays, link_known, link_events}
 use Rattle.section_runs.proofs.Records.{noted_known, noted_events, learns_none, line_leaves}
 
 module _ (m : Meaning) (l : Layout) (p : PartState) (q : RunState) (found : ℕ) where
@@ -192,36 +193,61 @@ module _ {T : Type 0} (m : Meaning) (laws : Laws m) (t : TableState T) (limits :
           look = ap (λ (s : ReadsState). s.look) step.behind.reads ∙ look_stays m a.layout a.part q found micro;
         }
 
+  -- a step of either kind
+  pub moved_own : (a b : RunnerState T) → IsOf t a → (q : RunState) (found : ℕ) → Moved m q found a b → IsOf t b
+  moved_own a b own q found (inl step) = still_of a b own q step.0 found step.1
+  moved_own a b own q found (inr step) = link_own m a b q found step t own
+
+  -- behind which the runner is still in its run
+  moved_passed : (thunk : Thunk) (a b : RunnerState T) → IsOf t a → IsOf t b → (q : RunState) (found : ℕ) → thunk_of q.opened ≡ thunk → (behind : RunState) → b.part.run ≡ Some behind
+      → Moved m q found a b → Passed 1 thunk a b
+  moved_passed thunk a b own own' q found same behind runs (inl step) = record {
+    stays = step_stays a b own q step.0 found step.1 behind runs;
+    events = step_events a b own q step.0 found step.1;
+    learns = subst (λ (x : Thunk). Learns x.request a.part.records.known b.part.records.known) same (step_learns a b own q step.0 found step.1);
+    cells = subst (λ (x : Thunk). ReadsOthers x.lock x.word a.part.reads.cells b.part.reads.cells) same (step_reads m laws t limits allowed a b own own' q found step.0 step.1);
+  }
+  moved_passed thunk a b own own' q found same behind runs (inr step) = record {
+    stays = link_stays m a b q found step;
+    events = link_events m a b q found step (run_open a own q step.running);
+    learns = subst (Learns thunk.request a.part.records.known) (sym (link_known m a b q found step (run_open a own q step.running))) (learns_none thunk.request a.part.records.known);
+    cells = subst (λ (s : ReadsState). ReadsOthers thunk.lock thunk.word a.part.reads.cells s.cells) (sym step.behind.reads) (reads_none thunk.lock thunk.word a.part.reads.cells);
+  }
+
+  -- it has loaded the same then
+  moved_opened : (a b : RunnerState T) (q : RunState) (found : ℕ) (behind : RunState) → b.part.run ≡ Some behind → Moved m q found a b → behind.opened ≡ q.opened
+  moved_opened a b q found behind runs (inl step) = opened_stays m a.layout a.part q found step.0 behind (sym step.1.behind.run ∙ runs)
+  moved_opened a b q found behind runs (inr step) = ap (λ (y : RunState). y.opened) (link_line m a b q found step behind runs)
+
   -- a runner that made more steps was in a run
   was_running : (n : ℕ) (a b : RunnerState T) → Ran m n a b → (q : RunState) → IsRunning m b q → (p : RunState) × IsRunning m a p
   was_running zero a b same q is = (q, subst (λ (y : RunnerState T). IsRunning m y q) same is)
-  was_running (suc n) a b ran q is = (ran.1, ran.4.running)
+  was_running (suc n) a b ran q is = (ran.1, moved_running m ran.1 ran.2 a ran.0 ran.3)
 
   pub ran_passed : (n : ℕ) (thunk : Thunk) (a b : RunnerState T) → IsOf t a → Ran m n a b → (q : RunState) → IsRunning m b q
       → ((p : RunState) → IsRunning m a p → thunk_of p.opened ≡ thunk) → Passed n thunk a b
   ran_passed zero thunk a b own same q is of = subst (λ (y : RunnerState T). Passed 0 thunk a y) (sym same)
       (record { stays = stays_same a; events = refl; learns = learns_none thunk.request a.part.records.known; cells = reads_none thunk.lock thunk.word a.part.reads.cells })
   ran_passed (suc n) thunk a b own ran q is of =
-      let r = ran.0 in let p = ran.1 in let step = ran.4 in
-      let between = was_running n r b ran.5 q is in
+      let r = ran.0 in let p = ran.1 in
+      let between = was_running n r b ran.4 q is in
       let behind : r.part.run ≡ Some between.0 = between.1.inside.running in
-      let opened = opened_stays m a.layout a.part p ran.3 ran.2 between.0 (sym step.behind.run ∙ behind) in
-      let same = of p step.running in
-      let own1 = still_of a r own p ran.2 ran.3 step in
-      let rest = ran_passed n thunk r b own1 ran.5 q is
+      let opened = moved_opened a r p ran.2 between.0 behind ran.3 in
+      let same = of p (moved_running m p ran.2 a r ran.3) in
+      let own1 = moved_own a r own p ran.2 ran.3 in
+      let one = moved_passed thunk a r own own1 p ran.2 same between.0 behind ran.3 in
+      let rest = ran_passed n thunk r b own1 ran.4 q is
       (λ p' is'. ap (λ (y : RunState). thunk_of y.opened) (one_run m r p' between.0 is' between.1) ∙ (ap thunk_of opened ∙ same)) in
       record {
-        stays = stays_more a r b (step_stays a r own p ran.2 ran.3 step between.0 behind) rest.stays;
-        events = rest.events ∙ ap (λ k. events_after k n) (step_events a r own p ran.2 ran.3 step);
-        learns = learns_more thunk.request a.part.records.known r.part.records.known b.part.records.known
-            (subst (λ (x : Thunk). Learns x.request a.part.records.known r.part.records.known) same (step_learns a r own p ran.2 ran.3 step)) rest.learns;
-        cells = reads_more thunk.lock thunk.word a.part.reads.cells r.part.reads.cells b.part.reads.cells
-            (subst (λ (x : Thunk). ReadsOthers x.lock x.word a.part.reads.cells r.part.reads.cells) same (step_reads m laws t limits allowed a r own own1 p ran.3 ran.2 step)) rest.cells;
+        stays = stays_more a r b one.stays rest.stays;
+        events = rest.events ∙ ap (λ k. events_after k n) one.events;
+        learns = learns_more thunk.request a.part.records.known r.part.records.known b.part.records.known one.learns rest.learns;
+        cells = reads_more thunk.lock thunk.word a.part.reads.cells r.part.reads.cells b.part.reads.cells one.cells rest.cells;
       }
 
   pub ran_own : (n : ℕ) (a b : RunnerState T) → IsOf t a → Ran m n a b → IsOf t b
   ran_own zero a b own same = subst (IsOf t) (sym same) own
-  ran_own (suc n) a b own ran = ran_own n ran.0 b (still_of a ran.0 own ran.1 ran.2 ran.3 ran.4) ran.5
+  ran_own (suc n) a b own ran = ran_own n ran.0 b (moved_own a ran.0 own ran.1 ran.2 ran.3) ran.4
 
 -- counting on
 pub events_more : (count n k : ℕ) → events_after (events_after count n) k ≡ events_after count (n + k)

@@ -1,5 +1,5 @@
 -- A Take, by its answer.
-use Rattle.std.proofs.Common.{◌≡◌, ℕ, suc, ◌+◌, ◌<◌, List, [], ◌∷◌, ◌++◌, length-append, append_assoc, false, refl, sym, ap, ◌∙◌, subst, arith, ⊎_elim, Option, Some, None}
+use Rattle.std.proofs.Common.{◌≡◌, ℕ, suc, ◌+◌, ◌<◌, ◌≤◌, List, [], ◌∷◌, ◌++◌, length-append, append_assoc, false, refl, sym, ap, ◌∙◌, subst, arith, ⊎_elim, Option, Some, None}
 use Rattle.std.specs.Prelude.{slice_index, take, is_err}
 use Rattle.idem_cell.specs.machine_states.specs.body_terms.specs.declared.micro.Micro.{Micro}
 use Rattle.idem_cell.specs.machine_states.specs.body_terms.specs.declared.micro.Micro.TheVariants as micros
@@ -17,7 +17,10 @@ use Rattle.idem_cell.specs.machine_states.specs.runner_parts.specs.State.{RunSta
 use Rattle.idem_cell.specs.machine_states.specs.runner_steps.specs.Sections.{thunk_of, line_of, setting_of, settles, outcome_or, reply_in}
 use Rattle.idem_cell.specs.machine_states.specs.runner_steps.specs.AfterInRun.{goes_on, agrees}
 use Rattle.idem_alloc.specs.commit_log.specs.version_words.specs.RunnerState.{RunnerState}
+use Rattle.idem_alloc.specs.commit_log.specs.next_steps.specs.Steps.{stock}
 use Rattle.idem_alloc.specs.commit_log.specs.Runs.{IsRunning}
+use Rattle.idem_alloc.specs.commit_log.specs.Links.{with_links}
+use Rattle.idem_alloc.specs.commit_log.proofs.Committing.{commit_blocks}
 use Rattle.idem_alloc.specs.commit_log.proofs.Next.{settled_at}
 use Rattle.nested_lock.specs.Answers.{first_outcome, second_outcome, outcome_at}
 use Rattle.nested_lock.specs.Taken.{MayTake, HasRead, HasHeld, HasTaken}
@@ -27,7 +30,7 @@ use Rattle.nested_lock.proofs.Halves.{ok_none}
 use Rattle.section_runs.specs.Reached.{run_of}
 use Rattle.section_runs.specs.Bodies.{body_of, IsBefore, MayGo, IsSameRun, StandsOver, IsOver, GoesOn, Leaves}
 use Rattle.section_runs.specs.Takes.{word_of, words_of}
-use Rattle.section_runs.proofs.Going.{run_is, nodes_same, begins_here, stands, arrives_at, same_run}
+use Rattle.section_runs.proofs.Going.{run_is, stock_same, nodes_same, begins_here, stands, arrives_at, has_room, same_run}
 use Rattle.section_runs.proofs.Cases.{commit_nodes}
 
 pub may_take : {T : Type 0} (m : Meaning) (r : RunnerState T) (place word : ℕ) → MayGo m (Take place word) r → MayTake m r place word (run_of r)
@@ -38,6 +41,7 @@ may_take m r place word may = record {
     takes = may.here;
     at = let b = begins_here m r may.n (Take place word) may.before may.here refl in omega (arith, b);
   };
+  room = has_room m r (Take place word) may;
 }
 
 module _ {T : Type 0} (m : Meaning) (r : RunnerState T) (place word n : ℕ) (before : IsBefore m n r) (here : IsStep (body_of m r) n (Take place word)) (end : TakeEnd) (new : RunnerState T) where
@@ -85,8 +89,12 @@ module _ {T : Type 0} (m : Meaning) (r : RunnerState T) (place word n : ℕ) (be
     abbrev q1 : RunState
     q1 = goes_on m r.layout q reads.loaded
 
+    -- with the block that it may have linked
+    abbrev k1 : RunState
+    k1 = with_links q1 reads.between
+
     abbrev b : RunState
-    b = agrees m r.layout q1 end.first
+    b = agrees m r.layout k1 end.first
 
     q1_at : q1.at ≡ q.at + 1
     q1_at = ap (λ (y : RunState). y.at) (settled_at m r.layout (record q { at = q.at + 1; word = reads.loaded }) (micros.NestedCommit place log) (there 1 (q.at + 1) (omega arith) refl) refl)
@@ -104,13 +112,19 @@ module _ {T : Type 0} (m : Meaning) (r : RunnerState T) (place word n : ℕ) (be
     first_leaves = ap (leaves s first_trail) check ∙ ap (first_outcome r.layout.version_max place word) first_word
 
     running : IsRunning m between b
-    running = subst (λ (y : RunState). IsRunning m between y) reads.after reads.goes_on
+    running = subst (λ (y : RunState). IsRunning m between (agrees m r.layout y end.first)) reads.links.line
+        (subst (λ (y : RunState). IsRunning m between y) reads.after reads.goes_on)
 
     layout : between.layout ≡ r.layout
-    layout = ap (λ (y : RunnerState T). y.layout) reads.commit.step.event.made ∙ ap (λ (y : RunnerState T). y.layout) reads.load.event.made
+    layout = ap (λ (y : RunnerState T). y.layout) reads.commit.step.event.made ∙ (reads.links.same.layout ∙ ap (λ (y : RunnerState T). y.layout) reads.load.event.made)
 
     nodes : between.part.nodes ≡ r.part.nodes
-    nodes = commit_nodes m reads.middle between _ end.first reads.first reads.commit ∙ reads.load.behind.nodes
+    nodes = commit_nodes m reads.linked between reads.between end.first reads.first reads.commit ∙ (reads.links.same.nodes ∙ reads.load.behind.nodes)
+
+    kept : stock r.part q ≤ stock between.part b
+    kept = let one = stock_same r.part reads.middle.part q reads.load.behind.blocks in
+        let two : stock reads.middle.part q ≤ stock reads.linked.part reads.between = reads.links.blocks in
+        let three = stock_same reads.linked.part between.part reads.between (commit_blocks m reads.linked between reads.between end.first reads.first reads.commit) in omega (arith, one, two, three)
 
     -- a first word that refuses
     module _ (same : new ≡ between) (outcome : Outcome) (told : first_outcome r.layout.version_max place word end.first ≡ Some outcome) where
@@ -157,8 +171,11 @@ module _ {T : Type 0} (m : Meaning) (r : RunnerState T) (place word n : ℕ) (be
       abbrev q3 : RunState
       q3 = goes_on m l q2 tried.loaded
 
+      abbrev k3 : RunState
+      k3 = with_links q3 tried.between
+
       abbrev q4 : RunState
-      q4 = agrees m l q3 read
+      q4 = agrees m l k3 read
 
       q2_at : q2.at ≡ q.at + 4
       q2_at = let h = hold_at in let e : b.at + 1 ≡ q.at + 4 = omega (arith, h) in
@@ -188,11 +205,11 @@ module _ {T : Type 0} (m : Meaning) (r : RunnerState T) (place word n : ℕ) (be
 
       -- the run behind it, by the layout that doesn't change
       last_running : IsRunning m new q4
-      last_running = tried.goes_on
+      last_running = subst (λ (y : RunState). IsRunning m new (agrees m l y read)) tried.links.line tried.goes_on
 
       last_layout : new.layout ≡ r.layout
       last_layout = ap (λ (y : RunnerState T). y.layout) tried.commit.event.made
-          ∙ (ap (λ (y : RunnerState T). y.layout) tried.load.event.made ∙ (ap (λ (y : RunnerState T). y.layout) tried.hold.event.made ∙ layout))
+          ∙ (tried.links.same.layout ∙ (ap (λ (y : RunnerState T). y.layout) tried.load.event.made ∙ (ap (λ (y : RunnerState T). y.layout) tried.hold.event.made ∙ layout)))
 
       q4_at : q4.at ≡ settled s both ms (q3.at + 1)
       q4_at = ap (λ (x : Layout). settled (setting_of x q.descriptor) both ms (q3.at + 1)) layout
@@ -201,7 +218,13 @@ module _ {T : Type 0} (m : Meaning) (r : RunnerState T) (place word n : ℕ) (be
       second_same = same_run m r new q4 last_running last_layout refl refl
 
       pub second_nodes : new.part.nodes ≡ r.part.nodes
-      second_nodes = tried.commit.behind.nodes ∙ (tried.load.behind.nodes ∙ (tried.hold.behind.nodes ∙ nodes))
+      second_nodes = tried.commit.behind.nodes ∙ (tried.links.same.nodes ∙ (tried.load.behind.nodes ∙ (tried.hold.behind.nodes ∙ nodes)))
+
+      kept_on : stock r.part q ≤ stock new.part q4
+      kept_on = let one = kept in
+          let two = stock_same between.part tried.looking.part b (tried.load.behind.blocks ∙ tried.hold.behind.blocks) in
+          let three : stock tried.looking.part b ≤ stock tried.linked.part tried.between = tried.links.blocks in
+          let four = stock_same tried.linked.part new.part tried.between tried.commit.behind.blocks in omega (arith, one, two, three, four)
 
       pub second_trail_is : both ≡ (run_of new).trail
       second_trail_is = ap (λ (y : RunState). y.trail) (run_is m new q4 last_running)
@@ -221,18 +244,21 @@ module _ {T : Type 0} (m : Meaning) (r : RunnerState T) (place word n : ℕ) (be
           let none : leaves s both (micro_at ms (q3.at + 1)) ≡ None = second_leaves ∙ (told_here ∙ answered) in
           let bb = begins_here m r n (Take place word) before here refl in
           let k = q4_next in
-          arrives_at m r n (Take place word) before here new (record q3 { at = q3.at + 1; trail = q3.trail ++ read ∷ [] }) (end.first ∷ read ∷ [])
-          (subst (λ (x : Layout). IsRunning m new (settles m x (record q3 { at = q3.at + 1; trail = q3.trail ++ read ∷ [] }))) layout last_running)
-          last_layout refl refl (append_assoc q.trail (end.first ∷ []) (read ∷ [])) refl before.none before.unended
+          arrives_at m r n (Take place word) before here new (record k3 { at = q3.at + 1; trail = q3.trail ++ read ∷ [] }) (end.first ∷ read ∷ [])
+          (subst (λ (x : Layout). IsRunning m new (settles m x (record k3 { at = q3.at + 1; trail = q3.trail ++ read ∷ [] }))) layout last_running)
+          last_layout refl refl (append_assoc q.trail (end.first ∷ []) (read ∷ [])) refl before.none before.unended kept_on
           ((rests_at s both ms).goes (q3.at + 1) (ap is_check check_held) none
           ∙ ap (settled s both ms) ((let z : suc (q3.at + 1) ≡ begins (body_of m r) n + 7 = omega (arith, bb, k) in z) ∙ sym (begins_next (body_of m r) n (Take place word) here)))
 
 -- a Take whose lock was taken goes on, and one that was refused leaves
 module _ {T : Type 0} (m : Meaning) (r : RunnerState T) (place word : ℕ) (may : MayGo m (Take place word) r) (end : TakeEnd) (new : RunnerState T) (has : HasTaken m place word end r new (run_of r)) where
-  behind_is : has.behind ≡ agrees m r.layout (goes_on m r.layout (run_of r) has.reads.loaded) end.first
-  behind_is = has.reads.after
+  abbrev went_on : RunState
+  went_on = agrees m r.layout (with_links (goes_on m r.layout (run_of r) has.reads.loaded) has.reads.between) end.first
 
-  held_by : (read : ℕ) → HasHeld m place word read end.answer has.between new has.behind → HasHeld m place word read end.answer has.between new (agrees m r.layout (goes_on m r.layout (run_of r) has.reads.loaded) end.first)
+  behind_is : has.behind ≡ went_on
+  behind_is = has.reads.after ∙ ap (λ (y : RunState). agrees m r.layout y end.first) has.reads.links.line
+
+  held_by : (read : ℕ) → HasHeld m place word read end.answer has.between new has.behind → HasHeld m place word read end.answer has.between new went_on
   held_by read held = subst (λ (y : RunState). HasHeld m place word read end.answer has.between new y) behind_is held
 
   pub take_goes : is_err end.answer ≡ false → GoesOn m (Take place word) r new

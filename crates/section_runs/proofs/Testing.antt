@@ -56,6 +56,7 @@ module _ {T : Type 0} (m : Meaning) (r : RunnerState T) where
           let z = ap (λ (g : Registers). g.count) (registers_before_next (body_of m r) n step here) ∙ count_after (registers_before (body_of m r) n) step in omega (arith, w, z));
       none = before.none;
       unended = before.unended;
+      room = before.room;
     }
 
     pub over : (outcome : Outcome) → left ≡ Some outcome → IsOver m n outcome r

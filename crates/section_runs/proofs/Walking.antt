@@ -1,6 +1,6 @@
 -- A run goes through its body.
-use Rattle.std.proofs.Common.{◌≡◌, ℕ, zero, suc, ◌+◌, ◌≤◌, List, [], ◌∷◌, ◌++◌, length, length-append, append_assoc, take, Bool, true, false, refl, sym, ap, ◌∙◌, subst, arith}
-use Rattle.std.specs.Prelude.{cond, count_by, sum_by}
+use Rattle.std.proofs.Common.{◌≡◌, ℕ, zero, suc, ◌+◌, ◌-◌, ◌≤◌, ◌<◌, List, [], ◌∷◌, ◌++◌, length, length-append, append_assoc, take, Bool, true, false, refl, sym, ap, ◌∙◌, subst, arith}
+use Rattle.std.specs.Prelude.{◌*◌, cond, count_by, sum_by}
 use Rattle.std.proofs.lemmas.List.Sums.{sum_by-cons}
 use Rattle.idem_cell.specs.section_lines.specs.small_lemmas.proofs.Lists.{append_none}
 use Rattle.idem_cell.specs.machine_states.specs.body_terms.specs.declared.micro.Micro.{Micro}
@@ -9,20 +9,26 @@ use Rattle.idem_cell.specs.machine_states.specs.body_terms.specs.declared.outcom
 use Rattle.idem_cell.specs.machine_states.specs.body_terms.specs.declared.outcome.Outcome.TheVariants as outcomes
 use Rattle.idem_cell.specs.machine_states.specs.body_terms.specs.declared.step.Step.{Step}
 use Rattle.idem_cell.specs.machine_states.specs.body_terms.specs.declared.step.Step.TheVariants.{Load, Want, Fresh, Take, Make, Stamp, Store, Retire, Answer}
-use Rattle.idem_cell.specs.machine_states.specs.body_terms.specs.Line.{no_registers, line, micro_at, is_event, releases, registers_before}
+use Rattle.idem_cell.specs.machine_states.specs.body_terms.specs.Cost.{step_cost}
+use Rattle.idem_cell.specs.machine_states.specs.body_terms.specs.Line.{Registers, no_registers, line, micro_at, is_event, log_words, releases, registers_before}
 use Rattle.idem_cell.specs.machine_states.specs.body_terms.specs.Shape.{IsStep, IsShaped, phase, is_make, is_retire, is_take}
-use Rattle.idem_cell.specs.machine_states.specs.body_terms.proofs.LineLemmas.{take_next, take_all, past_line}
+use Rattle.idem_cell.specs.machine_states.specs.body_terms.proofs.LineLemmas.{take_next, take_all, past_line, registers_before_next, count_after}
+use Rattle.idem_cell.specs.machine_states.specs.body_terms.proofs.RegisterLemmas.{count_rises}
+use Rattle.idem_cell.specs.machine_states.specs.table_words.specs.Places.{part_words}
 use Rattle.idem_cell.specs.section_lines.specs.Rests.{taken_releases}
 use Rattle.idem_cell.specs.section_lines.specs.Rests as resting
 use Rattle.idem_cell.specs.section_lines.proofs.Places.{step_inside}
 use Rattle.idem_cell.specs.section_lines.proofs.Resting.{run_rests}
 use Rattle.idem_cell.specs.machine_states.specs.structure_laws.specs.Meaning.{Meaning}
-use Rattle.idem_cell.specs.machine_states.specs.runner_parts.specs.State.{NodesState}
+use Rattle.idem_cell.specs.machine_states.specs.runner_parts.specs.block_words.specs.Blocks.{blocks_for}
+use Rattle.idem_cell.specs.machine_states.specs.runner_parts.specs.State.{RunState, NodesState}
 use Rattle.idem_cell.specs.machine_states.specs.runner_steps.specs.Sections.{thunk_of, setting_of, outcome_or, reply_in}
 use Rattle.idem_cell.specs.machine_states.specs.body_terms.specs.Run.{leaves}
 use Rattle.idem_alloc.specs.commit_log.specs.version_words.specs.RunnerState.{RunnerState}
+use Rattle.idem_alloc.specs.commit_log.specs.Links.{link_cost, links_cost}
+use Rattle.idem_alloc.specs.commit_log.proofs.Linking.{cost_next}
 use Rattle.section_runs.specs.Reached.{run_of}
-use Rattle.section_runs.specs.Bodies.{NodesStepped, NodesGone, body_of, IsBefore, IsSameRun, IsOver, HasWalked}
+use Rattle.section_runs.specs.Bodies.{body_words, body_links, NodesStepped, NodesGone, body_of, IsBefore, IsSameRun, IsOver, HasWalked}
 use Rattle.section_runs.specs.declared.passed.Walked.{Walked}
 use Rattle.section_runs.specs.declared.passed.Walked.TheVariants.{Over, Stopped}
 
@@ -47,6 +53,51 @@ module _ (f : Step → ℕ) where
   -- what a step adds isn't more than is left
   pub sum_room : (steps : List Step) (n : ℕ) (step : Step) → IsStep steps n step → sum_by f (take n steps) + f step ≤ sum_by f steps
   sum_room steps n step here = let a = sum_next steps n step here in let b = sum_most steps (suc n) in omega (arith, a, b)
+
+-- what the links cost at most of the words on which the first steps agree
+abbrev pub links_at : List Step → ℕ → ℕ
+links_at body n = link_cost * blocks_for (registers_before body n).count
+
+added : (a b c d e f : ℕ) → e ≡ a + c → b + d ≤ f → a + b + (c + d) ≤ e + f
+added a b c d e f one two = omega (arith, one, two)
+
+within_all : (a b c d e f g : ℕ) → a + c ≤ e → b + d ≤ f → f ≤ g → a + b + (c + d) ≤ e + g
+within_all a b c d e f g one two low = omega (arith, one, two, low)
+
+both_most : (a b c d : ℕ) → a ≤ c → b ≤ d → a + b ≤ c + d
+both_most a b c d one two = omega (arith, one, two)
+
+all_links : (words all : ℕ) → words ≤ all → link_cost * blocks_for words ≤ link_cost * blocks_for all
+all_links words all low = omega (arith, low)
+
+module _ (body : List Step) where
+  links_most : (n : ℕ) → n ≤ length body → links_at body n ≤ body_links body
+  links_most n within = all_links (registers_before body n).count (body_words body) (count_rises body n (length body) within (omega arith))
+
+  -- and the steps themselves
+  pub walk_most : (n : ℕ) → n ≤ length body → sum_by step_cost (take n body) + links_at body n ≤ sum_by step_cost body + body_links body
+  walk_most n within = both_most (sum_by step_cost (take n body)) (links_at body n) (sum_by step_cost body) (body_links body) (sum_most step_cost body n) (links_most n within)
+
+  -- with one more, before which the run is this one
+  module _ (n : ℕ) (step : Step) (here : IsStep body n step) (q : RunState) (words : length q.trail ≡ (registers_before body n).count) (enough : length q.trail ≤ part_words * suc (length q.links)) where
+    links_next : links_at body n + links_cost (log_words step) q ≤ links_at body (suc n)
+    links_next =
+        let next : (registers_before body n).count + log_words step ≡ (registers_before body (suc n)).count =
+        sym (ap (λ (g : Registers). g.count) (registers_before_next body n step here) ∙ count_after (registers_before body n) step) in
+        subst (λ k. links_at body n + links_cost (log_words step) q ≤ link_cost * blocks_for k) next
+        (subst (λ k. link_cost * blocks_for k + links_cost (log_words step) q ≤ link_cost * blocks_for (k + log_words step)) words (cost_next q enough (log_words step)))
+
+    pub walk_next : sum_by step_cost (take n body) + links_at body n + (step_cost step + links_cost (log_words step) q)
+        ≤ sum_by step_cost (take (n + 1) body) + links_at body (n + 1)
+    walk_next =
+        let next : suc n ≡ n + 1 = omega arith in
+        subst (λ k. sum_by step_cost (take n body) + links_at body n + (step_cost step + links_cost (log_words step) q) ≤ sum_by step_cost (take k body) + links_at body k) next
+        (added (sum_by step_cost (take n body)) (links_at body n) (step_cost step) (links_cost (log_words step) q) (sum_by step_cost (take (suc n) body)) (links_at body (suc n))
+        (sum_next step_cost body n step here) links_next)
+
+    pub walk_room : sum_by step_cost (take n body) + links_at body n + (step_cost step + links_cost (log_words step) q) ≤ sum_by step_cost body + body_links body
+    walk_room = within_all (sum_by step_cost (take n body)) (links_at body n) (step_cost step) (links_cost (log_words step) q) (sum_by step_cost body) (links_at body (suc n)) (body_links body)
+        (sum_room step_cost body n step here) links_next (links_most (suc n) (let i = step_inside body n step here in omega (arith, i)))
 
 abbrev pub made_by : Step → ℕ
 made_by step = cond (is_make step) 1 0

@@ -1,8 +1,8 @@
 -- What came of a step, by what its call gave.
-use Rattle.std.proofs.Common.{◌≡◌, ◌≢◌, ℕ, Bool, true, false, refl, sym, ap, ◌∙◌, subst, Option, Some, None}
+use Rattle.std.proofs.Common.{◌≡◌, ◌≢◌, ℕ, ◌+◌, Bool, true, false, refl, sym, ap, ◌∙◌, subst, Option, Some, None}
 use Rattle.std.specs.Prelude.{◌==◌, cond}
 use Rattle.idem_cell.specs.machine_states.specs.body_terms.specs.Cost.{step_cost}
-use Rattle.idem_cell.specs.machine_states.specs.body_terms.specs.Line.{micros, micro_at, registers_before}
+use Rattle.idem_cell.specs.machine_states.specs.body_terms.specs.Line.{micros, micro_at, log_words, registers_before}
 use Rattle.idem_cell.specs.machine_states.specs.body_terms.specs.Run.{leaves}
 use Rattle.idem_cell.specs.machine_states.specs.body_terms.specs.Shape.{IsStep, phase}
 use Rattle.idem_cell.specs.machine_states.specs.body_terms.specs.Word.{version_of}
@@ -17,6 +17,7 @@ use Rattle.idem_cell.specs.machine_states.proofs.Steps.{some_same}
 use Rattle.idem_cell.specs.machine_states.specs.runner_steps.specs.Sections.{setting_of}
 use Rattle.idem_alloc.specs.commit_log.specs.version_words.specs.RunnerState.{RunnerState}
 use Rattle.idem_alloc.specs.commit_log.specs.Halted.{IsThrough, IsHalted}
+use Rattle.idem_alloc.specs.commit_log.specs.Links.{links_cost}
 use Rattle.section_runs.specs.Reached.{run_of}
 use Rattle.section_runs.specs.Bodies.{body_of, IsSameRun, GoesOn, Leaves}
 use Rattle.section_runs.specs.Goes.{MayGoBy, MayGoAt, Went}
@@ -57,12 +58,16 @@ module _ {T : Type 0} (m : Meaning) (n : ℕ) (step s : Step) (kept : Places) (e
   abbrev Was : Step → Type 0
   Was x = Went m n x passed old new trail trail' halts halts' asks asks' steps steps'
 
+  -- what the step costs, and the links before its commits
+  abbrev cost : ℕ
+  cost = step_cost s + links_cost (log_words s) (run_of old)
+
   here : IsStep (body_of m old) n s
   here = may.here ∙ ap (λ (x : Step). Some x) e
 
   -- a step that goes on or is halted
   pub went_by : (going : Bool) → passed ≡ cond going On Halted → (going ≡ true → GoesOn m s old new) → (going ≡ true → trail'.words ≡ (run_of new).trail) → trail'.late ≡ trail.late
-      → (going ≡ true → IsThrough m (step_cost s) old new halts halts' asks asks' steps steps') → (going ≡ false → IsHalted m (step_cost s) old new halts halts' asks asks' steps steps') → Was step
+      → (going ≡ true → IsThrough m cost old new halts halts' asks asks' steps steps') → (going ≡ false → IsHalted m cost old new halts halts' asks asks' steps steps') → Was step
   went_by going told goes words late through halted = subst Was (sym e) (record {
     before = λ on. (goes (going_on going passed told on)).before n may.before here;
     nodes = λ on. (goes (going_on going passed told on)).nodes;
@@ -78,7 +83,7 @@ module _ {T : Type 0} (m : Meaning) (n : ℕ) (step s : Step) (kept : Places) (e
 
   -- a step that may also leave
   pub went_all : (passed ≡ On → GoesOn m s old new) → ((o : Outcome) → passed ≡ Left o → Leaves m s o old new) → phase s ≡ 1 → (passed ≢ Halted → trail'.words ≡ (run_of new).trail) → trail'.late ≡ trail.late
-      → (passed ≢ Halted → IsThrough m (step_cost s) old new halts halts' asks asks' steps steps') → (passed ≡ Halted → IsHalted m (step_cost s) old new halts halts' asks asks' steps steps') → Was step
+      → (passed ≢ Halted → IsThrough m cost old new halts halts' asks asks' steps steps') → (passed ≡ Halted → IsHalted m cost old new halts halts' asks asks' steps steps') → Was step
   went_all goes leaves first words late through halted = subst Was (sym e) (record {
     before = λ on. (goes on).before n may.before here;
     nodes = λ on. (goes on).nodes;
@@ -115,7 +120,7 @@ module _ {T : Type 0} (m : Meaning) (n : ℕ) (step s : Step) (kept : Places) (e
     same = λ still. record { opened = refl; descriptor = refl; layout = refl };
     words = λ still. words;
     late = refl;
-    through = λ still. stood m r (step_cost s) halts asks steps;
+    through = λ still. stood m r (step_cost s + links_cost (log_words s) (run_of r)) halts asks steps;
     halted = λ stop. absurd (never_halts left (sym told ∙ stop));
   })
 

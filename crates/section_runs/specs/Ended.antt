@@ -11,12 +11,14 @@ use Rattle.idem_cell.specs.machine_states.specs.body_terms.specs.declared.outcom
 use Rattle.idem_cell.specs.machine_states.specs.body_terms.specs.declared.outcome.Outcome.TheVariants.{Answered}
 use Rattle.idem_cell.specs.machine_states.specs.body_terms.specs.declared.step.Step.{Step}
 use Rattle.idem_cell.specs.machine_states.specs.body_terms.specs.declared.thunk.Thunk.{Thunk}
-use Rattle.idem_cell.specs.machine_states.specs.table_words.specs.declared.spot.Spot.TheVariants.{Cell, DoneWord, LogWord}
+use Rattle.idem_cell.specs.machine_states.specs.table_words.specs.declared.spot.Spot.TheVariants.{Cell, DoneWord}
 use Rattle.idem_cell.specs.runner_gate.specs.Asks.{Asks}
 use Rattle.idem_cell.specs.machine_states.specs.structure_laws.specs.Meaning.{Meaning}
+use Rattle.idem_cell.specs.machine_states.specs.runner_parts.specs.block_words.specs.Blocks.{log_in}
 use Rattle.idem_cell.specs.machine_states.specs.runner_parts.specs.declared.entries.Retired.{Retired}
-use Rattle.idem_cell.specs.machine_states.specs.runner_parts.specs.State.{NodesState, FinishedState}
+use Rattle.idem_cell.specs.machine_states.specs.runner_parts.specs.State.{NodesState, BlocksState, FinishedState}
 use Rattle.idem_cell.specs.machine_states.specs.runner_parts.specs.Tests.{is_answered}
+use Rattle.idem_cell.specs.machine_states.specs.runner_parts.specs.Lists.{blocks_retired}
 use Rattle.idem_cell.specs.machine_states.specs.runner_steps.specs.AfterInRun.{kept_unless, retired_if}
 use Rattle.idem_cell.specs.machine_states.specs.runner_steps.specs.Sections.{setting_of}
 use Rattle.idem_cell.specs.machine_states.specs.Sight.{Sight, sight}
@@ -29,6 +31,7 @@ use Rattle.idem_alloc.specs.commit_log.specs.Runs.{Ran}
 use Rattle.idem_alloc.specs.commit_log.specs.Asked.{IsAsked}
 use Rattle.idem_alloc.specs.commit_log.specs.Halted.{IsHalted}
 use Rattle.section_runs.specs.Reached.{IsReached, events_after}
+use Rattle.section_runs.specs.Bodies.{body_blocks, body_links}
 use Rattle.section_runs.specs.Opened.{Learns, ReadsOthers, IsOpening, HasOpened}
 use Rattle.section_runs.specs.declared.runs.RunEnd.{RunEnd}
 use Rattle.section_runs.specs.declared.runs.RunEnd.TheVariants.{Done, Halted}
@@ -43,14 +46,22 @@ pub record NodesRan (body : List Step) (old new : NodesState) : Type 0 where
   pub limbo : new.limbo ≡ old.limbo ++ more
   pub few : length more ≤ count_by is_retire body
 
+-- what a run of this descriptor's section leaves of the own blocks: at most so many were linked, which lie in limbo
+-- under it, and the others are free
+pub record BlocksRan (most d : ℕ) (old new : BlocksState) : Type 0 where
+  pub won : List ℕ
+  pub few : length won ≤ most
+  pub free : length old.free ≤ length new.free + length won
+  pub limbo : new.limbo ≡ (blocks_retired (record old { free = new.free }) won d).limbo
+
 -- the section of this descriptor, with this thunk, is done, as the words of this state say: no lock names it, and its
 -- log is the trail
 pub record IsDone (m : Meaning) (d : ℕ) (t : Thunk) (trail : List ℕ) (s : Sight) : Type 0 where
   pub thunk : thunk_in s.word d ≡ t
   pub done : s.word (DoneWord d) ≢ 0
   pub unnamed : (p : ℕ) → m.is_lock p ≡ true → value_of (s.word (Cell p)) ≢ suc d
-  pub whole : trail ≡ first_values (length trail) (λ k. s.word (LogWord d k))
-  pub over : (k : ℕ) → length trail ≤ k → s.word (LogWord d k) ≡ 0
+  pub whole : trail ≡ first_values (length trail) (log_in s.word d)
+  pub over : (k : ℕ) → length trail ≤ k → log_in s.word d k ≡ 0
 
 module _ {T : Type 0} (m : Meaning) where
   -- the runner ran this section to its end, in so many steps, with this outcome and this trail. What is kept of the run
@@ -78,7 +89,7 @@ module _ {T : Type 0} (m : Meaning) where
     pub count : ℕ
     pub ran : Ran m count opened new
     pub counted : made ≡ 13 + count
-    pub few : made ≤ cost_of (m.body t)
+    pub few : made ≤ cost_of (m.body t) + body_links (m.body t)
     pub events : new.part.records.events ≡ events_after old.part.records.events made
     -- what becomes of the own part
     pub layout : new.layout ≡ old.layout
@@ -89,6 +100,8 @@ module _ {T : Type 0} (m : Meaning) where
     pub published : new.part.published ≡ kept_unless old.part.published d
     pub descriptors : new.part.descriptors ≡ retired_if old.part.descriptors old.part.published d
     pub nodes : NodesRan (m.body t) old.part.nodes new.part.nodes
+    -- of the own blocks, those that the run linked lie in limbo under the section's descriptor, and it has no other one
+    pub blocks : BlocksRan (body_blocks (m.body t)) d old.part.blocks new.part.blocks
     pub left_nodes : ((reply : ℕ) → outcome ≢ Answered reply) → new.part.nodes ≡ old.part.nodes
     -- its guard word names what it named, and it knows what it has read on the way to a lock, and without a lock
     pub guards : new.part.guards ≡ old.part.guards
@@ -114,7 +127,7 @@ module _ {T : Type 0} (m : Meaning) where
     pub count : ℕ
     pub ran : Ran m count opened new
     pub counted : made ≡ 13 + count
-    pub few : made ≤ cost_of (m.body thunk)
+    pub few : made ≤ cost_of (m.body thunk) + body_links (m.body thunk)
 
   -- a gate halted the runner behind one of the steps of its run, so many: in the opening or behind it
   abbrev pub IsCutShort : ℕ → ℕ → RunnerState T → RunnerState T → Type 0
@@ -122,7 +135,7 @@ module _ {T : Type 0} (m : Meaning) where
 
 -- how many steps a run makes behind its opening
 abbrev pub rest_of : List Step → ℕ
-rest_of body = sum_by step_cost body + (2 + count_by is_take body)
+rest_of body = sum_by step_cost body + body_links body + (2 + count_by is_take body)
 
 -- what a run tells behind its opening, of the section of this descriptor, with this thunk, which it found done or not
 module _ {T : Type 0} (m : Meaning) where

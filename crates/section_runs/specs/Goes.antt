@@ -1,7 +1,7 @@
 -- A step of a run's body, with the registers that its code keeps, and what came of it.
-use Rattle.std.specs.Prelude.{◌≡◌, ◌≢◌, ℕ, suc}
+use Rattle.std.specs.Prelude.{◌≡◌, ◌≢◌, ℕ, suc, ◌+◌}
 use Rattle.idem_cell.specs.machine_states.specs.body_terms.specs.Cost.{step_cost}
-use Rattle.idem_cell.specs.machine_states.specs.body_terms.specs.Line.{registers_before}
+use Rattle.idem_cell.specs.machine_states.specs.body_terms.specs.Line.{registers_before, log_words}
 use Rattle.idem_cell.specs.machine_states.specs.body_terms.specs.Shape.{IsStep, phase}
 use Rattle.idem_cell.specs.machine_states.specs.body_terms.specs.Trail.{Agreed}
 use Rattle.idem_cell.specs.machine_states.specs.body_terms.specs.declared.outcome.Outcome.{Outcome}
@@ -10,6 +10,7 @@ use Rattle.idem_cell.specs.runner_gate.specs.Asks.{Asks}
 use Rattle.idem_cell.specs.machine_states.specs.structure_laws.specs.Meaning.{Meaning}
 use Rattle.idem_alloc.specs.commit_log.specs.version_words.specs.RunnerState.{RunnerState}
 use Rattle.idem_alloc.specs.commit_log.specs.Halted.{IsThrough, IsHalted}
+use Rattle.idem_alloc.specs.commit_log.specs.Links.{links_cost}
 use Rattle.section_runs.specs.Reached.{run_of}
 use Rattle.section_runs.specs.Registers.{AreKept}
 use Rattle.section_runs.specs.Bodies.{NodesStepped, body_of, IsBefore, MayGo, IsSameRun, IsOver}
@@ -40,5 +41,7 @@ pub record Went {T : Type 0} (m : Meaning) (n : ℕ) (step : Step) (passed : Pas
   pub same : passed ≢ Halted → IsSameRun m old new
   pub words : passed ≢ Halted → trail'.words ≡ (run_of new).trail
   pub late : trail'.late ≡ trail.late
-  pub through : passed ≢ Halted → IsThrough m (step_cost step) old new halts halts' asks asks' steps steps'
-  pub halted : passed ≡ Halted → IsHalted m (step_cost step) old new halts halts' asks asks' steps steps'
+  pub through : passed ≢ Halted → IsThrough m (step_cost step + links_cost (log_words step) (run_of old)) old new
+      halts halts' asks asks' steps steps'
+  pub halted : passed ≡ Halted → IsHalted m (step_cost step + links_cost (log_words step) (run_of old)) old new
+      halts halts' asks asks' steps steps'

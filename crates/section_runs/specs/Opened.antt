@@ -70,6 +70,7 @@ module _ {T : Type 0} (m : Meaning) where
     pub count : length words ≡ n
     pub stays : Stays old new
     pub nodes : new.part.nodes ≡ old.part.nodes
+    pub blocks : new.part.blocks ≡ old.part.blocks
     pub reads : new.part.reads ≡ old.part.reads
     pub known : new.part.records.known ≡ old.part.records.known
     pub events : new.part.records.events ≡ events_after old.part.records.events n
@@ -85,6 +86,7 @@ module _ {T : Type 0} (m : Meaning) where
     pub found : is_late (opening d words) ≡ late
     pub stays : Stays old new
     pub nodes : new.part.nodes ≡ old.part.nodes
+    pub blocks : new.part.blocks ≡ old.part.blocks
     pub reads : new.part.reads ≡ old.part.reads
     pub known : new.part.records.known ≡ old.part.records.known
     pub events : new.part.records.events ≡ events_after old.part.records.events 13

@@ -2,6 +2,7 @@
 use Rattle.std.specs.Prelude.{◌≡◌, ℕ, zero, suc, true, false, [], slice_get, Option, Some, None}
 use Rattle.idem_cell.specs.machine_states.specs.structure_laws.specs.Meaning.{Meaning}
 use Rattle.idem_cell.specs.machine_states.specs.epoch_core.specs.declared.stage.Stage.TheVariants as stages
+use Rattle.idem_cell.specs.machine_states.specs.runner_parts.specs.block_words.specs.Blocks.{blocks_for}
 use Rattle.idem_cell.specs.machine_states.specs.runner_parts.specs.declared.entries.Published.{Published}
 use Rattle.idem_cell.specs.machine_states.specs.runner_parts.specs.State.{RunState}
 use Rattle.idem_cell.specs.machine_states.specs.runner_steps.specs.Outside.{is_sure_of}
@@ -32,6 +33,15 @@ no_run = record {
 abbrev pub run_or : Option RunState → RunState
 run_or None = no_run
 run_or (Some q) = q
+
+-- a body agrees on at most so many words: of its 32 steps none agrees on more than two, and its Stamp and its Answer on
+-- none
+abbrev pub most_words : ℕ
+most_words = 60
+
+-- so many blocks the longest log needs beside its descriptor
+abbrev pub run_blocks : ℕ
+run_blocks = blocks_for most_words
 
 -- a number of events after so many more, as a runner's part counts them
 abbrev pub events_after : ℕ → ℕ → ℕ

@@ -7,7 +7,7 @@ ghost use Rattle.idem_cell.specs.machine_states.specs.runner_steps.specs.Section
 ghost use Rattle.idem_alloc.specs.commit_log.specs.version_words.specs.TableState.{IsOf};
 ghost use Rattle.idem_alloc.specs.commit_log.specs.Halted.{IsThrough, IsHalted};
 ghost use Rattle.section_runs.specs.Reached.{run_of};
-ghost use Rattle.section_runs.specs.Bodies.{body_of, IsBefore, HasWalked};
+ghost use Rattle.section_runs.specs.Bodies.{body_of, body_links, IsBefore, HasWalked};
 ghost use Rattle.section_runs.specs.declared.passed.Walked.TheVariants.{Over, Stopped};
 
 use crate::passed::{Passed, Walked};
@@ -48,7 +48,8 @@ fn taken_behind(taken: usize, n: usize, step: &Step) -> usize
 ///
 /// The steps are counted apart and added up at its end, wherever that is.
 ///
-/// The run stands before the first step, and a free node slot is there for each Make. No memory is taken.
+/// The run stands before the first step, a free node slot is there for each Make, and there are blocks for its log. No
+/// memory is taken.
 pub fn walk<S: Structure, G: Gate, L>(
     table: &FlockTable<S>,
     runner: Runner<S>,
@@ -71,10 +72,10 @@ pub fn walk<S: Structure, G: Gate, L>(
     ensures trail { result.1 ≢ Stopped → trail.new.words ≡ (run_of result.0).trail }
     ensures late { trail.new.late ≡ trail.old.late }
     ensures through { result.1 ≢ Stopped
-        → IsThrough (S.meaning table.now.structure) (sum_by step_cost body.now) runner result.0
+        → IsThrough (S.meaning table.now.structure) (sum_by step_cost body.now + body_links body.now) runner result.0
         (G.halts gate.old) (G.halts gate.new) (G.asks gate.old) (G.asks gate.new) steps.old.count steps.new.count }
     ensures halted { result.1 ≡ Stopped
-        → IsHalted (S.meaning table.now.structure) (sum_by step_cost body.now) runner result.0
+        → IsHalted (S.meaning table.now.structure) (sum_by step_cost body.now + body_links body.now) runner result.0
         (G.halts gate.old) (G.halts gate.new) (G.asks gate.old) (G.asks gate.new) steps.old.count steps.new.count }
 {
     let mut runner = runner;

@@ -5,7 +5,7 @@ ghost use Rattle.idem_cell.specs.machine_states.specs.body_terms.specs.declared.
 ghost use Rattle.idem_cell.specs.machine_states.specs.body_terms.specs.declared.thunk.Thunk.{Thunk as Words};
 ghost use Rattle.idem_alloc.specs.commit_log.specs.version_words.specs.TableState.{IsOf};
 ghost use Rattle.idem_alloc.specs.commit_log.specs.Asked.{IsAsked};
-ghost use Rattle.section_runs.specs.Reached.{MayBegin};
+ghost use Rattle.section_runs.specs.Reached.{MayBegin, run_blocks};
 ghost use Rattle.section_runs.specs.Opened.{StandsOpened};
 ghost use Rattle.section_runs.specs.Ended.{EndsSo, IsCutShort, EndsOpened, HaltsOpened};
 ghost use Rattle.section_runs.specs.declared.runs.RunEnd.TheVariants.{Done, Halted};
@@ -71,6 +71,7 @@ fn run_steps<S: Structure, G: Gate, L>(
     requires empty { trail.old.words ≡ [] }
     requires line { line.now ≡ (S.meaning table.now.structure).body thunk.now }
     requires reserve { 2 ≤ length runner.part.nodes.free }
+    requires blocks { run_blocks ≤ length runner.part.blocks.free }
     ensures own { IsOf table.now result.0 }
     ensures done { EndsOpened (S.meaning table.now.structure) descriptor thunk.now trail.old.late result.1
         runner result.0
@@ -105,6 +106,7 @@ fn run_anew<S: Structure, G: Gate, L>(
     requires own { IsOf table.now runner }
     requires opened { StandsOpened (S.meaning table.now.structure) descriptor thunk.now late runner }
     requires reserve { 2 ≤ length runner.part.nodes.free }
+    requires blocks { run_blocks ≤ length runner.part.blocks.free }
     ensures own { IsOf table.now result.0 }
     ensures done { EndsOpened (S.meaning table.now.structure) descriptor thunk.now late result.1 runner result.0
         (G.halts gate.old) (G.halts gate.new) (G.asks gate.old) (G.asks gate.new) steps.old.count steps.new.count }
@@ -134,6 +136,7 @@ fn run_apart<S: Structure, G: Gate, L>(
     requires own { IsOf table.now runner }
     requires opened { StandsOpened (S.meaning table.now.structure) descriptor thunk.now late runner }
     requires reserve { 2 ≤ length runner.part.nodes.free }
+    requires blocks { run_blocks ≤ length runner.part.blocks.free }
     ensures own { IsOf table.now result.0 }
     ensures done { EndsOpened (S.meaning table.now.structure) descriptor thunk.now late result.1 runner result.0
         (G.halts gate.old) (G.halts gate.new) (G.asks gate.old) (G.asks gate.new) steps.old.count steps.new.count }
@@ -159,6 +162,7 @@ fn run_opened<S: Structure, G: Gate, L>(
     requires own { IsOf table.now runner }
     requires opened { StandsOpened (S.meaning table.now.structure) descriptor thunk.now late runner }
     requires reserve { 2 ≤ length runner.part.nodes.free }
+    requires blocks { run_blocks ≤ length runner.part.blocks.free }
     ensures own { IsOf table.now result.0 }
     ensures done { EndsOpened (S.meaning table.now.structure) descriptor thunk.now late result.1 runner result.0
         (G.halts gate.old) (G.halts gate.new) (G.asks gate.old) (G.asks gate.new) steps.old.count steps.new.count }
@@ -193,6 +197,7 @@ fn run_loaded<S: Structure, G: Gate, L>(
     requires own { IsOf table.now runner }
     requires opened { StandsOpened (S.meaning table.now.structure) descriptor thunk late runner }
     requires reserve { 2 ≤ length runner.part.nodes.free }
+    requires blocks { run_blocks ≤ length runner.part.blocks.free }
     ensures own { IsOf table.now result.0 }
     ensures done { EndsOpened (S.meaning table.now.structure) descriptor thunk late result.1 runner result.0
         (G.halts gate.old) (G.halts gate.new) (G.asks gate.old) (G.asks gate.new) steps.old.count steps.new.count }
@@ -215,6 +220,7 @@ fn run_asked<S: Structure, G: Gate, L>(
     requires own { IsOf table.now runner }
     requires next { MayBegin (S.meaning table.now.structure) runner descriptor }
     requires reserve { 2 ≤ length runner.part.nodes.free }
+    requires blocks { run_blocks ≤ length runner.part.blocks.free }
     ensures own { IsOf table.now result.0 }
     ensures done { (o : Ending) (trail : Agreed) → result.1 ≡ Done o trail → (t : Words) × (made : ℕ)
         × EndsSo (S.meaning table.now.structure) descriptor t o trail made runner result.0 × IsAsked made true
@@ -236,9 +242,10 @@ fn run_asked<S: Structure, G: Gate, L>(
 /// step is counted, and the gate is asked after it; a gate that says that it never halts any more is told in the end
 /// how often.
 ///
-/// The runner has to be entered and in no run, holds the descriptor, and has a reserve of two node slots. It makes at
-/// most as many steps as `cost` of the body says. `Halted` only where the gate halted. No memory is taken, and nothing
-/// waits (Ben-David, Blelloch, Wei, 2022).
+/// The runner has to be entered and in no run, holds the descriptor, and has a reserve of two node slots, and of the
+/// blocks of the longest log. It makes at most as many steps as `cost` of the body says, and those of a link for each
+/// block that its log needs. `Halted` only where the gate halted. No memory is taken, and nothing waits (Ben-David,
+/// Blelloch, Wei, 2022).
 #[inline(always)]
 pub fn run<S: Structure, G: Gate, L>(
     table: &FlockTable<S>,
@@ -250,6 +257,7 @@ pub fn run<S: Structure, G: Gate, L>(
     requires own { IsOf table.now runner }
     requires next { MayBegin (S.meaning table.now.structure) runner descriptor }
     requires reserve { 2 ≤ length runner.part.nodes.free }
+    requires blocks { run_blocks ≤ length runner.part.blocks.free }
     ensures own { IsOf table.now result.0 }
     ensures done { (o : Ending) (trail : Agreed) → result.1 ≡ Done o trail → (t : Words) × (made : ℕ)
         × EndsSo (S.meaning table.now.structure) descriptor t o trail made runner result.0 × IsAsked made true

@@ -1,11 +1,12 @@
 //! One step of a run's body.
-ghost use Rattle.std.specs.Prelude.{◌≡◌, ◌≢◌, ℕ, ◌≤◌, true, false, length, cond};
+ghost use Rattle.std.specs.Prelude.{◌≡◌, ◌≢◌, ℕ, ◌+◌, ◌≤◌, true, false, length, cond};
 ghost use Rattle.idem_cell.specs.machine_states.specs.body_terms.specs.Line.{Registers, registers_after};
 ghost use Rattle.idem_cell.specs.machine_states.specs.body_terms.specs.Shape.{is_make};
 ghost use Rattle.idem_cell.specs.machine_states.specs.body_terms.specs.declared.outcome.Outcome.{Outcome};
 ghost use Rattle.idem_cell.specs.machine_states.specs.body_terms.specs.declared.step.Step.TheVariants as kinds;
 ghost use Rattle.idem_alloc.specs.commit_log.specs.version_words.specs.TableState.{IsOf};
 ghost use Rattle.idem_alloc.specs.commit_log.specs.Halted.{IsThrough, IsHalted};
+ghost use Rattle.idem_alloc.specs.commit_log.specs.Links.{links_cost};
 ghost use Rattle.section_runs.specs.Reached.{run_of};
 ghost use Rattle.section_runs.specs.Bodies.{MayGo, GoesOn, Leaves};
 ghost use Rattle.section_runs.specs.Goes.{MayGoBy, MayGoAt, Went};
@@ -41,9 +42,11 @@ fn load_step<S: Structure, G: Gate, L>(
         → GoesOn (S.meaning table.now.structure) (kinds.Load place into) runner result.0 }
     ensures trail { result.1 ≡ true → trail.new.words ≡ (run_of result.0).trail }
     ensures late { trail.new.late ≡ trail.old.late }
-    ensures through { result.1 ≡ true → IsThrough (S.meaning table.now.structure) 2 runner result.0
+    ensures through { result.1 ≡ true → IsThrough (S.meaning table.now.structure)
+        (2 + links_cost 1 (run_of runner)) runner result.0
         (G.halts gate.old) (G.halts gate.new) (G.asks gate.old) (G.asks gate.new) steps.old.count steps.new.count }
-    ensures halted { result.1 ≡ false → IsHalted (S.meaning table.now.structure) 2 runner result.0
+    ensures halted { result.1 ≡ false → IsHalted (S.meaning table.now.structure)
+        (2 + links_cost 1 (run_of runner)) runner result.0
         (G.halts gate.old) (G.halts gate.new) (G.asks gate.old) (G.asks gate.new) steps.old.count steps.new.count }
 {
     let (runner, word) = load_gated(table, runner, place, gate, steps);
@@ -75,9 +78,11 @@ fn make_step<S: Structure, G: Gate, L>(
         → GoesOn (S.meaning table.now.structure) (kinds.Make init into) runner result.0 }
     ensures trail { result.1 ≡ true → trail.new.words ≡ (run_of result.0).trail }
     ensures late { trail.new.late ≡ trail.old.late }
-    ensures through { result.1 ≡ true → IsThrough (S.meaning table.now.structure) 11 runner result.0
+    ensures through { result.1 ≡ true → IsThrough (S.meaning table.now.structure)
+        (11 + links_cost 1 (run_of runner)) runner result.0
         (G.halts gate.old) (G.halts gate.new) (G.asks gate.old) (G.asks gate.new) steps.old.count steps.new.count }
-    ensures halted { result.1 ≡ false → IsHalted (S.meaning table.now.structure) 11 runner result.0
+    ensures halted { result.1 ≡ false → IsHalted (S.meaning table.now.structure)
+        (11 + links_cost 1 (run_of runner)) runner result.0
         (G.halts gate.old) (G.halts gate.new) (G.asks gate.old) (G.asks gate.new) steps.old.count steps.new.count }
 {
     let values = [
@@ -144,9 +149,11 @@ fn retire_step<S: Structure, G: Gate, L>(
     ensures goes { result.1 ≡ true → GoesOn (S.meaning table.now.structure) (kinds.Retire slot) runner result.0 }
     ensures trail { result.1 ≡ true → trail.new.words ≡ (run_of result.0).trail }
     ensures late { trail.new.late ≡ trail.old.late }
-    ensures through { result.1 ≡ true → IsThrough (S.meaning table.now.structure) 2 runner result.0
+    ensures through { result.1 ≡ true → IsThrough (S.meaning table.now.structure)
+        (2 + links_cost 1 (run_of runner)) runner result.0
         (G.halts gate.old) (G.halts gate.new) (G.asks gate.old) (G.asks gate.new) steps.old.count steps.new.count }
-    ensures halted { result.1 ≡ false → IsHalted (S.meaning table.now.structure) 2 runner result.0
+    ensures halted { result.1 ≡ false → IsHalted (S.meaning table.now.structure)
+        (2 + links_cost 1 (run_of runner)) runner result.0
         (G.halts gate.old) (G.halts gate.new) (G.asks gate.old) (G.asks gate.new) steps.old.count steps.new.count }
 {
     let (runner, going) = retire_gated(table, runner, slot, gate, steps);
@@ -175,9 +182,11 @@ fn take_step<S: Structure, G: Gate, L>(
         → Leaves (S.meaning table.now.structure) (kinds.Take place word) o runner result.0 }
     ensures trail { result.1 ≢ Halted → trail.new.words ≡ (run_of result.0).trail }
     ensures late { trail.new.late ≡ trail.old.late }
-    ensures through { result.1 ≢ Halted → IsThrough (S.meaning table.now.structure) 5 runner result.0
+    ensures through { result.1 ≢ Halted → IsThrough (S.meaning table.now.structure)
+        (5 + links_cost 2 (run_of runner)) runner result.0
         (G.halts gate.old) (G.halts gate.new) (G.asks gate.old) (G.asks gate.new) steps.old.count steps.new.count }
-    ensures halted { result.1 ≡ Halted → IsHalted (S.meaning table.now.structure) 5 runner result.0
+    ensures halted { result.1 ≡ Halted → IsHalted (S.meaning table.now.structure)
+        (5 + links_cost 2 (run_of runner)) runner result.0
         (G.halts gate.old) (G.halts gate.new) (G.asks gate.old) (G.asks gate.new) steps.old.count steps.new.count }
 {
     let (runner, end) = take_gated(table, runner, descriptor, place, word, gate, steps);

@@ -3,6 +3,7 @@ use Rattle.std.specs.Prelude.{◌==◌, ◌||◌, nat_lt, not, Bool, true, false
 use Rattle.std.proofs.Common.{◌≡◌, ℕ, zero, suc, ◌+◌, ◌*◌, ◌<◌, ◌≤◌, List, [], ◌∷◌, ◌++◌, length, refl, sym, ap, ◌∙◌, subst, arith, Option, Some, None, eq-eqb, ne_eqb, ◌≢◌}
 use mathlib.Core.Logic.{dite}
 use native.Mathlib.Decide.{ℕ_discrete}
+use Rattle.machine_states.specs.table_words.specs.Places.{worker_blocks, keeper_blocks}
 use Rattle.machine_states.specs.table_words.specs.declared.layout.Layout.{Layout}
 use Rattle.machine_states.specs.table_words.specs.declared.spot.Spot.TheVariants as spots
 use Rattle.machine_states.specs.table_words.specs.declared.access.Access.TheVariants.{Loads}
@@ -12,6 +13,7 @@ use Rattle.machine_states.specs.runner_parts.specs.State.{RunState, PartState, B
 use Rattle.machine_states.specs.runner_parts.specs.declared.entries.BoardRead.{BoardRead}
 use Rattle.machine_states.specs.runner_parts.specs.Tests.{has, is_between}
 use Rattle.machine_states.specs.runner_steps.specs.After.{after, after_by, stepped, leaves}
+use Rattle.machine_states.specs.runner_steps.specs.Blocks.{blocks_after}
 use Rattle.machine_states.specs.First.{keeper_part, falling}
 use Rattle.closed_words.specs.version_words.specs.RunnerState.{RunnerState}
 use Rattle.closed_words.specs.version_words.specs.Shown.{left_part}
@@ -59,7 +61,14 @@ join_finished : (m : Meaning) (l : Layout) (r worker : ℕ) (p : PartState) → 
 join_finished m l r worker p none =
     ap (λ (o : Option RunState). (after_by m l (kinds.Join worker) p o 0).records.finished) none
 
--- neither changes what is kept of the epoch
+-- neither touches the own blocks
+split_blocks : (m : Meaning) (l : Layout) (r : ℕ) (p : PartState) → p.run ≡ None → (after m l r kinds.Split spots.Seat Loads p 0).blocks ≡ p.blocks
+split_blocks m l r p none = ap (λ (o : Option RunState). blocks_after m l kinds.Split p o 0) none
+
+join_blocks : (m : Meaning) (l : Layout) (r worker : ℕ) (p : PartState) → p.run ≡ None → (after m l r (kinds.Join worker) spots.Seat Loads p 0).blocks ≡ p.blocks
+join_blocks m l r worker p none = ap (λ (o : Option RunState). blocks_after m l (kinds.Join worker) p o 0) none
+
+-- and neither changes what is kept of the epoch
 split_stays : (m : Meaning) (l : Layout) (p : PartState) → p.run ≡ None → Stays p (stepped m l kinds.Split p 0)
 split_stays m l p none = subst (λ (o : Option RunState). Stays p (after_by m l kinds.Split p o 0)) (sym none) (stays m l p 0 kinds.Split None)
 
@@ -90,6 +99,7 @@ first_is_idle {T} m t r is = subst (λ (y : RunnerState T). IsIdleKeeper m 0 0 y
   joined = record { fresh = λ worker past. refl; parts = λ worker few. absurd (omega (arith, few)) };
   told = λ worker few. absurd (omega (arith, few));
   nodes = refl;
+  blocks = refl;
   guards = refl;
   finished = refl;
   unmet = refl;
@@ -111,6 +121,8 @@ module _ {T : Type 0} (m : Meaning) (r r' : RunnerState T) (splits : ℕ) where
     joined = split_joined m r r' splits 0 split is.keeper is.joined;
     told = λ worker none. absurd (omega (arith, none));
     nodes = of (λ (q : PartState). q.nodes) (λ q b c s. refl) ∙ (is.nodes ∙ ap (λ (l : Layout). (keeper_part m l).nodes) (sym (ap (λ (y : RunnerState T). y.layout) split.made)));
+    blocks = ap (λ (y : RunnerState T). y.part.blocks) split.made
+        ∙ (split_blocks m r.layout r.number r.part is.at.resting ∙ (is.blocks ∙ ap (λ (l : Layout). (keeper_part m l).blocks) (sym (ap (λ (y : RunnerState T). y.layout) split.made))));
     guards = of (λ (q : PartState). q.guards) (λ q b c s. refl) ∙ is.guards;
     finished = ap (λ (y : RunnerState T). y.part.records.finished) split.made
         ∙ (split_finished m r.layout r.number r.part is.at.resting ∙ is.finished);
@@ -138,6 +150,9 @@ module _ {T : Type 0} (m : Meaning) (keeper worker r' : RunnerState T) (splits c
     joined = then_joined m keeper worker r' splits count joins is.keeper is.joined next;
     told = λ k few. told k few;
     nodes = of (λ (q : PartState). q.nodes) (λ q b c s. refl) ∙ (is.nodes ∙ ap (λ (l : Layout). (keeper_part m l).nodes) (sym (ap (λ (y : RunnerState T). y.layout) joins)));
+    blocks = ap (λ (y : RunnerState T). y.part.blocks) joins
+        ∙ (join_blocks m keeper.layout keeper.number worker.number keeper.part is.at.resting
+        ∙ (is.blocks ∙ ap (λ (l : Layout). (keeper_part m l).blocks) (sym (ap (λ (y : RunnerState T). y.layout) joins))));
     guards = of (λ (q : PartState). q.guards) (λ q b c s. refl) ∙ is.guards;
     finished = ap (λ (y : RunnerState T). y.part.records.finished) joins
         ∙ (join_finished m keeper.layout keeper.number worker.number keeper.part is.at.resting ∙ is.finished);
@@ -192,6 +207,12 @@ pub free_slots : {T : Type 0} (m : Meaning) (t : TableState T) (r : RunnerState 
 free_slots m t r splits count own is = ap (λ (n : NodesState). length n.free) is.nodes
     ∙ (length-falling (m.fixed_slots + r.layout.nodes * r.layout.runners) (2 * r.layout.runners + 2) ∙ ap (λ (l : Layout). 2 * l.runners + 2) own.layout)
 
+-- so are its blocks
+free_blocks : {T : Type 0} (m : Meaning) (t : TableState T) (r : RunnerState T) (splits count : ℕ) → IsOf t r → IsIdleKeeper m splits count r
+    → length r.part.blocks.free ≡ keeper_blocks t.layout
+free_blocks m t r splits count own is = ap (λ (b : BlocksState). length b.free) is.blocks
+    ∙ (length-falling (worker_blocks r.layout * r.layout.runners) (keeper_blocks r.layout) ∙ ap (λ (l : Layout). keeper_blocks l) own.layout)
+
 -- it may settle the table
 pub may_settle : {T : Type 0} (m : Meaning) (t : TableState T) (r : RunnerState T) (count : ℕ) → IsOf t r → IsIdleKeeper m count count r → count ≡ t.layout.runners → MaySettle t r
 may_settle m t r count own is all = record {
@@ -205,6 +226,7 @@ may_settle m t r count own is all = record {
     unguarded = ap (λ (g : GuardsState). g.named) is.guards;
   };
   free = free_slots m t r count count own is;
+  blocks = free_blocks m t r count count own is;
 }
 
 -- and once it has settled it, it has joined them still

@@ -9,13 +9,14 @@ use Rattle.closed_words.specs.version_words.specs.RunnerState.{RunnerState}
 use Rattle.closed_words.specs.version_words.specs.Stages.{IsAt, IsKeeper, HasJoined}
 
 -- an idle keeper that has split off so many workers and joined the first ones, so many; it has all its own node slots
--- still
+-- and blocks still
 pub record IsIdleKeeper {T : Type 0} (m : Meaning) (splits count : ℕ) (r : RunnerState T) : Type 0 where
   pub keeper : IsKeeper r splits
   pub at : IsAt r stages.Idle None
   pub joined : HasJoined r count
   pub told : (worker : ℕ) → worker < count → has r.part.records.joined worker ≡ true
   pub nodes : r.part.nodes ≡ (keeper_part m r.layout).nodes
+  pub blocks : r.part.blocks ≡ (keeper_part m r.layout).blocks
   -- it guards nothing, and has no sweep in progress
   pub guards : r.part.guards ≡ no_guards
   -- and has run no section

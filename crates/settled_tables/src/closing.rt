@@ -18,8 +18,8 @@ use std::alloc::{AllocError, Global};
 ///
 /// So whatever the workers did and wherever they were stopped, the cells are those that the structure says of a memory
 /// in which nothing is pending (`AreSettled` of `closed_words`); and each section that was published happened once, for
-/// good, or not at all. The keeper has joined each worker, is idle, and has all its own node slots free. There is no
-/// refusal, no memory is taken, and nothing waits.
+/// good, or not at all. The keeper has joined each worker, is idle, and has all its own node slots and blocks free. There
+/// is no refusal, no memory is taken, and nothing waits.
 pub fn settle_and_close<S: Structure>(table: FlockTable<S>, keeper: Runner<S>) -> Words<S>
     requires own { IsOf table keeper }
     requires next { MaySettle table keeper }

@@ -4,7 +4,7 @@ use Rattle.std.proofs.Common.{◌≡◌, ◌≢◌, ℕ, suc, ◌+◌, ◌*◌, 
 use Rattle.std.specs.Prelude.{◌⊎◌}
 use Rattle.std.proofs.lemmas.Bool.{cases_lt, both_ways}
 use Rattle.std.proofs.lemmas.Bool.Decides.{nat_tests}
-use Rattle.machine_states.specs.body_terms.specs.Shape.{is_make}
+use Rattle.machine_states.specs.body_terms.specs.Shape.{IsShaped, is_make}
 use Rattle.machine_states.specs.body_terms.specs.Word.{value_of, is_free}
 use Rattle.machine_states.specs.table_words.specs.Access.{written}
 use Rattle.machine_states.specs.table_words.specs.declared.access.Access.TheVariants.{Loads}
@@ -36,7 +36,7 @@ use Rattle.reached_histories.specs.machine_facts.specs.machine_invariant.specs.A
 use Rattle.reached_histories.specs.machine_facts.proofs.Following.{facts_after}
 use Rattle.keeper_facts.specs.runner_facts.specs.next_steps.proofs.Numbers.{reached_numbers}
 use Rattle.keeper_facts.specs.runner_facts.specs.Keeper.{AllJoined}
-use Rattle.keeper_facts.specs.Freed.{HasLeft, IsCleared, IsFreed, IsAlone, StandsSeen, LocksTell}
+use Rattle.keeper_facts.specs.Freed.{HasLeft, IsCleared, IsNamed, IsFreed, AreApart, IsAlone, StandsSeen, LocksTell}
 use Rattle.keeper_facts.proofs.Lists.{left_on}
 use Rattle.keeper_facts.proofs.Keeping.{after_keeps, noted_left}
 use Rattle.try_lock.specs.commit_log.specs.version_words.specs.RunnerState.{RunnerState}
@@ -47,8 +47,9 @@ use Rattle.try_lock.specs.commit_log.specs.version_words.specs.Stages.{IsAt}
 use Rattle.try_lock.specs.commit_log.specs.version_words.proofs.Stages.{made_at}
 use Rattle.try_lock.specs.epoch_slots.specs.Entries.{KeepsOwn}
 use Rattle.try_lock.specs.epoch_slots.proofs.Outside.{guards_made, reads_made, own_kept}
-use Rattle.try_lock.specs.section_runs.specs.Reached.{run_of}
+use Rattle.try_lock.specs.section_runs.specs.Reached.{run_of, run_blocks}
 use Rattle.try_lock.specs.section_runs.specs.Ended.{EndsSo}
+use Rattle.try_lock.specs.section_runs.proofs.Blocks.{run_few}
 use Rattle.try_lock.specs.section_runs.proofs.Going.{shaped}
 use Rattle.try_lock.specs.section_runs.proofs.Openeds.{stands_opened, opened_body}
 use Rattle.try_lock.specs.Reached.{MayHelp}
@@ -58,12 +59,16 @@ use Rattle.try_lock.proofs.Watching.{same_named, same_looked}
 use Rattle.reached_histories.specs.machine_facts.specs.machine_agreement.proofs.Releases.{get_more}
 use Rattle.settling.specs.Settled.{IsFront, LoadsLocks}
 use Rattle.settling.specs.Clearing.{cell_count, KeepsJoins, IsUnderway, IsClearing, HasMet, HasRun}
+use Rattle.settling.proofs.Blocks.{for_next, behind_one, with_more}
 use Rattle.settling.proofs.Growing.{front_same, front_on, Grows, grows_on, own_grows, grows_made, grows_ran, grows_opens}
 
 -- what the record of what the keeper's steps left tells, in every reached state
 abbrev pub RecordTells : Meaning → Type 0
 RecordTells m = (layout : Layout) (requests : List Request) (w : World) → IsWithinLimits layout → AreAllowed requests → Reached m layout requests w
     → LocksTell m layout (sight m layout requests w)
+
+equal : (a b : ℕ) → (a == b) ≡ true → a ≡ b
+equal a b e = grind (arith, nat_tests)
 
 -- a place below the next one
 old_or_this : (p place : ℕ) → p < place + 1 → (p < place) ⊎ (p ≡ place)
@@ -149,6 +154,7 @@ module _ {T : Type 0} (m : Meaning) (begun place : ℕ) (r : RunnerState T) (is 
     apart = is.apart;
     each = is.each;
     reserve = is.reserve;
+    blocks = is.blocks;
     runs = is.runs;
     looked = is.looked;
   }
@@ -195,6 +201,8 @@ module _ {T : Type 0} (m : Meaning) (begun below : ℕ) (a b : RunnerState T) (i
     each = λ d h. freed_in m a.part.records.left b.part.records.left grows.left d (is.each d h);
     reserve = subst (λ l. 2 * l.runners + 2 ≤ length b.part.nodes.free + 2 * length is.freed) (sym grows.layout)
         (subst (λ (n : NodesState). 2 * a.layout.runners + 2 ≤ length n.free + 2 * length is.freed) (sym own.nodes) is.reserve);
+    blocks = subst (λ l. run_blocks * l.runners ≤ length b.part.blocks.free + run_blocks * length is.freed) (sym grows.layout)
+        (with_more (run_blocks * a.layout.runners) (length a.part.blocks.free) (length b.part.blocks.free) (run_blocks * length is.freed) is.blocks own.blocks);
     runs = ap length own.finished ∙ is.runs;
     looked = looked;
   }
@@ -431,8 +439,24 @@ module _ {T : Type 0} (m : Meaning) (laws : Laws m) (t : TableState T) (limits :
         freed1 : (e : ℕ) → has way1.freed e ≡ true → IsFreed m (s1.part r1.layout.runners).records.left e
         freed1 e h = subst (λ (p : PartState). IsFreed m p.records.left e) (sym part1) (way1.each e h)
 
-        few1 : length way1.freed ≤ r1.layout.runners
-        few1 = tell1.few joined1 way1.freed way1.apart freed1
+        -- the section that it names wasn't run before: so fewer were than there are workers
+        new_one : (b : Bool) → has way1.freed d ≡ b → b ≡ false
+        new_one true h = absurd (tell1.freed alone1 d place (freed1 d h) lock word1)
+        new_one false h = refl
+
+        apart1 : AreApart (d ∷ way1.freed)
+        apart1 = (new_one (has way1.freed d) refl, way1.apart)
+
+        named1 : (e : ℕ) → has (d ∷ way1.freed) e ≡ true → IsNamed m (s1.part r1.layout.runners).records.left e
+        named1 e h = by (d == e) refl h
+          where
+            by : (b : Bool) → (d == e) ≡ b → (b || has way1.freed e) ≡ true → IsNamed m (s1.part r1.layout.runners).records.left e
+            by true same h = subst (IsNamed m (s1.part r1.layout.runners).records.left) (equal d e same)
+                (record { place = place; lock = lock; word = held; named = subst (λ (p : PartState). HasLeft p.records.left place held) (sym part1) has_held; names = names })
+            by false same h = let f = freed1 e h in record { place = f.place; lock = f.lock; word = f.word; named = f.named; names = f.names }
+
+        few1 : length way1.freed < r1.layout.runners
+        few1 = tell1.few joined1 (d ∷ way1.freed) apart1 named1
 
         -- the section that it names may be run
         pub may_help : MayHelp m r1 held
@@ -443,6 +467,7 @@ module _ {T : Type 0} (m : Meaning) (laws : Laws m) (t : TableState T) (limits :
           names = not_free held met.names;
           sure = watched.sure same;
           reserve = (let a = way1.reserve in let b = few1 in omega (arith, a, b));
+          blocks = for_next run_blocks r1.layout.runners (length r1.part.blocks.free) (length way1.freed) way1.blocks few1;
           reached = watched.reached;
         }
 
@@ -471,12 +496,18 @@ module _ {T : Type 0} (m : Meaning) (laws : Laws m) (t : TableState T) (limits :
           own_opened : IsOf t ends.opened
           own_opened = own_grows t r1 ends.opened (grows_opens m 13 r1 ends.opened ends.opening.loads) own1
 
-          makes : count_by is_make (m.body ran.thunk) ≤ 2
-          makes =
+          is_shaped : IsShaped (m.body ran.thunk)
+          is_shaped =
               let stood = stands_opened m d ran.thunk ran.trail.late r1 ends.opened
               (record { epoch = way1.epoch; published = None; at = way1.at; sure = watched.sure same; reached = watched.reached }) ends.opening in
-              subst (λ body. count_by is_make body ≤ 2) (opened_body m d ran.thunk ran.trail.late ends.opened stood)
-              (shaped m laws t limits allowed ends.opened own_opened (run_of ends.opened) ends.opening.inside).makes
+              subst IsShaped (opened_body m d ran.thunk ran.trail.late ends.opened stood)
+              (shaped m laws t limits allowed ends.opened own_opened (run_of ends.opened) ends.opening.inside)
+
+          makes : count_by is_make (m.body ran.thunk) ≤ 2
+          makes = is_shaped.makes
+
+          few_won : length ends.blocks.won ≤ run_blocks
+          few_won = let few = ends.blocks.few in let most = run_few (m.body ran.thunk) is_shaped in omega (arith, few, most)
 
           abbrev s2 : Sight
           s2 = sight m r2.layout r2.requests ends.reached.world
@@ -508,17 +539,9 @@ module _ {T : Type 0} (m : Meaning) (laws : Laws m) (t : TableState T) (limits :
           freed2 : IsFreed m r2.part.records.left d
           freed2 = record { place = place; lock = lock; word = held; other = last2.number; named = has_held2; names = names; also = last2.has; differs = differs2 }
 
-          -- it wasn't run before
-          new_one : (b : Bool) → has way1.freed d ≡ b → b ≡ false
-          new_one true h = absurd (tell1.freed alone1 d place (freed1 d h) lock word1)
-          new_one false h = refl
-
           each2 : (e : ℕ) → has (d ∷ way1.freed) e ≡ true → IsFreed m r2.part.records.left e
           each2 e h = by (d == e) refl h
             where
-              equal : (a b : ℕ) → (a == b) ≡ true → a ≡ b
-              equal a b e = grind (arith, nat_tests)
-
               by : (b : Bool) → (d == e) ≡ b → (b || has way1.freed e) ≡ true → IsFreed m r2.part.records.left e
               by true same h = subst (IsFreed m r2.part.records.left) (equal d e same) freed2
               by false same h = freed_in m r1.part.records.left r2.part.records.left grows2.left e (way1.each e h)
@@ -546,10 +569,13 @@ module _ {T : Type 0} (m : Meaning) (laws : Laws m) (t : TableState T) (limits :
                 (record { first = held; second = last2.number; seen = has_held2; also = last2.has; why = inr (λ e. differs2 (sym e)) }))
                 (old_or_this p place low');
             freed = d ∷ way1.freed;
-            apart = (new_one (has way1.freed d) refl, way1.apart);
+            apart = apart1;
             each = each2;
             reserve = subst (λ l. 2 * l.runners + 2 ≤ length r2.part.nodes.free + 2 * suc (length way1.freed)) (sym ends.layout)
                 (let a = way1.reserve in let b = ends.nodes.free in let c = makes in omega (arith, a, b, c));
+            blocks = subst (λ l. run_blocks * l.runners ≤ length r2.part.blocks.free + run_blocks * suc (length way1.freed)) (sym ends.layout)
+                (behind_one run_blocks r1.layout.runners (length r1.part.blocks.free) (length r2.part.blocks.free) (length ends.blocks.won) (length way1.freed)
+                way1.blocks ends.blocks.free few_won);
             runs =
                 let here = way1.runs in
                 let more = one_run in omega (arith, here, more);

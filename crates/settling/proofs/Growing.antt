@@ -1,8 +1,9 @@
 -- Along the keeper's way it keeps whom it has joined, and the record of what its steps left grows.
-use Rattle.std.specs.Prelude.{◌==◌, ◌||◌, Bool, true, false, if◌then◌else◌}
-use Rattle.std.proofs.Common.{◌≡◌, ℕ, zero, suc, List, [], ◌∷◌, ◌++◌, append-nil, append_assoc, refl, sym, ap, ◌∙◌, subst}
+use Rattle.std.specs.Prelude.{◌+◌, ◌==◌, ◌||◌, nat_lt, Bool, true, false, if◌then◌else◌}
+use Rattle.std.proofs.Common.{◌≡◌, ℕ, zero, suc, List, [], ◌∷◌, ◌++◌, append-nil, append_assoc, refl, sym, ap, ◌∙◌, subst, inl, inr}
 use Rattle.machine_states.specs.body_terms.specs.declared.micro.Micro.{Micro}
 use Rattle.machine_states.specs.body_terms.specs.declared.micro.Micro.TheVariants as micros
+use Rattle.machine_states.specs.table_words.specs.Places.{block_words}
 use Rattle.machine_states.specs.table_words.specs.declared.layout.Layout.{Layout}
 use Rattle.machine_states.specs.table_words.specs.declared.spot.Spot.{Spot}
 use Rattle.machine_states.specs.table_words.specs.declared.access.Access.{Access}
@@ -12,16 +13,17 @@ use Rattle.machine_states.specs.runner_parts.specs.declared.entries.Left.{Left}
 use Rattle.machine_states.specs.runner_parts.specs.declared.event.EventKind.{EventKind}
 use Rattle.machine_states.specs.runner_parts.specs.declared.event.EventKind.TheVariants as kinds
 use Rattle.machine_states.specs.runner_parts.specs.State.{RunState, RecordsState, PartState}
+use Rattle.machine_states.specs.runner_steps.specs.Outside.{blocks_from}
 use Rattle.machine_states.specs.runner_steps.specs.After.{left_more, is_late_join, noted}
 use Rattle.machine_states.specs.runner_steps.specs.After.{after_by, after}
 use Rattle.machine_states.specs.World.{is_join}
-use Rattle.keeper_facts.specs.runner_facts.specs.next_steps.specs.Steps.{kind_at}
+use Rattle.keeper_facts.specs.runner_facts.specs.next_steps.specs.Steps.{slot_in, kind_at, next_block, link_kind}
 use Rattle.keeper_facts.proofs.Keeping.{after_keeps, noted_joined}
 use Rattle.machine_states.proofs.Marks.{stays}
 use Rattle.try_lock.specs.commit_log.specs.version_words.specs.RunnerState.{RunnerState}
 use Rattle.try_lock.specs.commit_log.specs.version_words.specs.TableState.{TableState, IsOf}
 use Rattle.try_lock.specs.commit_log.specs.version_words.specs.Events.{Makes}
-use Rattle.try_lock.specs.commit_log.specs.Runs.{Ran}
+use Rattle.try_lock.specs.commit_log.specs.Runs.{Moved, Ran}
 use Rattle.try_lock.specs.section_runs.specs.Opened.{is_opening, Opens}
 use Rattle.settling.specs.Settled.{IsFront}
 
@@ -100,6 +102,13 @@ plain_at : (p : PartState) (q : RunState) (micro : Micro) → is_plain (kind_at 
 plain_at p q (micros.LoadCell place log) = refl
 plain_at p q _ = refl
 
+plain_link : (m : Meaning) (l : Layout) (p : PartState) (q : RunState) → is_plain (link_kind m l p q) ≡ true
+plain_link m l p q = by (nat_lt q.emptied block_words)
+  where
+    by : (b : Bool) → is_plain (if b then kinds.PrivateStore (blocks_from m l + slot_in (next_block p q)) q.emptied 0 else kinds.LinkCommit (slot_in q.block)) ≡ true
+    by true = refl
+    by false = refl
+
 opening_plain : (kind : EventKind) → is_opening kind ≡ true → is_plain kind ≡ true
 opening_plain (kinds.LoadThunk descriptor) is = refl
 opening_plain kinds.LoadDone is = refl
@@ -128,11 +137,13 @@ module _ {T : Type 0} (m : Meaning) where
             (noted_grows r.layout r.number kind made.met.0 made.met.1 found (after_by m r.layout kind r.part r.part.run found).records is));
       }
 
+  grows_moved : (q : RunState) (found : ℕ) (a b : RunnerState T) → Moved m q found a b → Grows a b
+  grows_moved q found a b (inl step) = grows_made (kind_at a.part q step.0) found a b (plain_at a.part q step.0) step.1.event
+  grows_moved q found a b (inr link) = grows_made (link_kind m a.layout a.part q) found a b (plain_link m a.layout a.part q) link.event
+
   pub grows_ran : (n : ℕ) (a b : RunnerState T) → Ran m n a b → Grows a b
   grows_ran zero a b same = subst (Grows a) (sym same) (grows_same a)
-  grows_ran (suc n) a b ran =
-      let r = ran.0 in
-      grows_on a r b (grows_made (kind_at a.part ran.1 ran.2) ran.3 a r (plain_at a.part ran.1 ran.2) ran.4.event) (grows_ran n r b ran.5)
+  grows_ran (suc n) a b ran = let r = ran.0 in grows_on a r b (grows_moved ran.1 ran.2 a r ran.3) (grows_ran n r b ran.4)
 
   pub grows_opens : (n : ℕ) (a b : RunnerState T) → Opens m n a b → Grows a b
   grows_opens zero a b same = subst (Grows a) (sym same) (grows_same a)

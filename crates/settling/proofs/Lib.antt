@@ -1,3 +1,4 @@
+mod Blocks
 mod Growing
 mod Clears
 mod Settling

@@ -6,7 +6,7 @@ use Rattle.std.proofs.lemmas.Bool.Decides.{nat_tests}
 use Rattle.machine_states.specs.body_terms.specs.Word.{value_of}
 use Rattle.machine_states.specs.table_words.specs.declared.spot.Spot.TheVariants.{Cell}
 use Rattle.machine_states.specs.table_words.specs.Limits.{IsWithinLimits}
-use Rattle.machine_states.specs.table_words.specs.Places.{address}
+use Rattle.machine_states.specs.table_words.specs.Places.{address, keeper_blocks}
 use Rattle.machine_states.specs.runner_steps.specs.Asks.{sizes_for}
 use Rattle.machine_states.specs.structure_laws.specs.Meaning.{Meaning}
 use Rattle.machine_states.specs.structure_laws.specs.Laws.{Laws}
@@ -18,15 +18,17 @@ use Rattle.machine_states.specs.Sight.{Sight, sight, part_or_first}
 use Rattle.machine_states.specs.World.{World, seat_of}
 use Rattle.reached_histories.specs.machine_facts.specs.machine_invariant.specs.After.{AreAllowed}
 use Rattle.keeper_facts.specs.runner_facts.specs.Keeper.{AllJoined}
-use Rattle.keeper_facts.specs.Freed.{IsCleared, IsFreed, IsAlone, LocksTell}
+use Rattle.keeper_facts.specs.Freed.{IsCleared, IsNamed, IsFreed, IsAlone, LocksTell}
 use Rattle.reached_histories.specs.Laws.{HasHistory}
 use Rattle.reached_histories.proofs.Histories.{reached_have}
 use Rattle.try_lock.specs.commit_log.specs.version_words.specs.RunnerState.{RunnerState}
 use Rattle.try_lock.specs.commit_log.specs.version_words.specs.TableState.{TableState, IsOf}
 use Rattle.try_lock.specs.epoch_slots.specs.Entries.{HasLeave, Enters, Exits}
 use Rattle.try_lock.specs.epoch_slots.proofs.Outside.{reads_made}
+use Rattle.try_lock.specs.section_runs.specs.Reached.{run_blocks}
 use Rattle.settling.specs.Settled.{LoadsLocks, MaySettle, IsSettled, Settles}
 use Rattle.settling.specs.Clearing.{cell_count, KeepsJoins, IsUnderway, IsClearing}
+use Rattle.settling.proofs.Blocks.{keeper_has}
 use Rattle.settling.proofs.Growing.{Grows, grows_on, own_grows, grows_made}
 use Rattle.settling.proofs.Clears.{RecordTells, cleared_in, freed_in, keeps_grown}
 
@@ -58,12 +60,18 @@ module _ {T : Type 0} (m : Meaning) (laws : Laws m) (t : TableState T) (limits :
       each = λ d h. absurd (let z = h in cc);
       reserve = subst (λ l. 2 * l.runners + 2 ≤ length r.part.nodes.free + 0) (sym (entering.layout ∙ own.layout))
           (let a = ap (λ (n : NodesState). length n.free) enters.keeps.nodes in let b = may.free in omega (arith, a, b));
+      blocks = subst (λ l. run_blocks * l.runners ≤ length r.part.blocks.free + run_blocks * 0) (sym (entering.layout ∙ own.layout))
+          (has_all (run_blocks * t.layout.runners) (keeper_blocks t.layout) (length old.part.blocks.free) (length r.part.blocks.free) (run_blocks * 0)
+          (keeper_has t.layout) may.blocks enters.keeps.blocks);
       runs = omega arith;
       looked = ap (λ (g : GuardsState). g.looked) enters.guards;
     }
       where
         none_read : {x : ℕ × ℕ} → None ≡ Some x → ⊥
         none_read e = cc
+
+        has_all : (all own free left more : ℕ) → all ≤ own → free ≡ own → free ≤ left → all ≤ left + more
+        has_all all own free left more enough whole stay = omega (arith, enough, whole, stay)
 
     pub begins : IsClearing m (length r.part.records.finished) 0 r
     begins = record { way = begins_way; unguarded = ap (λ (g : GuardsState). g.named) enters.guards ∙ may.tidy.unguarded }
@@ -130,8 +138,9 @@ module _ {T : Type 0} (m : Meaning) (laws : Laws m) (t : TableState T) (limits :
 
       -- it ran at most one section for each worker
       few_freed : length is.way.freed ≤ new.layout.runners
-      few_freed = tells.few joined is.way.freed is.way.apart (λ d h. subst (λ (p : PartState). IsFreed m p.records.left d) (sym seen)
-          (freed_in m r.part.records.left new.part.records.left leaving.left d (is.way.each d h)))
+      few_freed = tells.few joined is.way.freed is.way.apart (λ d h. subst (λ (p : PartState). IsNamed m p.records.left d) (sym seen)
+          (let f = freed_in m r.part.records.left new.part.records.left leaving.left d (is.way.each d h) in
+          record { place = f.place; lock = f.lock; word = f.word; named = f.named; names = f.names }))
 
     -- where it has freed none, it ran none
     none_freed : ((d : ℕ) → IsFreed m new.part.records.left d → ⊥) → length is.way.freed ≡ 0

@@ -11,7 +11,7 @@ use Rattle.machine_states.specs.epoch_core.specs.declared.stage.Stage.TheVariant
 use Rattle.machine_states.specs.runner_parts.specs.Tests.{has}
 use Rattle.try_lock.specs.commit_log.specs.version_words.specs.RunnerState.{RunnerState}
 use Rattle.try_lock.specs.commit_log.specs.version_words.specs.Stages.{IsAt}
-use Rattle.try_lock.specs.section_runs.specs.Reached.{IsReached}
+use Rattle.try_lock.specs.section_runs.specs.Reached.{IsReached, run_blocks}
 use Rattle.try_lock.specs.section_runs.specs.Ended.{EndsSo}
 use Rattle.keeper_facts.specs.Freed.{HasLeft, IsCleared, IsFreed, AreApart}
 use Rattle.settling.specs.Settled.{IsFront, LoadsLocks}
@@ -51,6 +51,7 @@ module _ {T : Type 0} where
       pub apart : AreApart freed
       pub each : (d : ℕ) → has freed d ≡ true → IsFreed m r.part.records.left d
       pub reserve : 2 * r.layout.runners + 2 ≤ length r.part.nodes.free + 2 * length freed
+      pub blocks : run_blocks * r.layout.runners ≤ length r.part.blocks.free + run_blocks * length freed
       pub runs : length r.part.records.finished ≡ begun + length freed
       -- no sweep is in progress
       pub looked : r.part.guards.looked ≡ []

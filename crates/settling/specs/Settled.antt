@@ -2,6 +2,7 @@
 use Rattle.std.specs.Prelude.{◌≡◌, ◌≢◌, ℕ, ◌+◌, ◌*◌, ◌<◌, ◌≤◌, ◌++◌, true, List, length, slice_get, Some}
 use Rattle.machine_states.specs.body_terms.specs.Word.{value_of}
 use Rattle.machine_states.specs.table_words.specs.declared.spot.Spot.TheVariants.{Cell, Stamp, Reply}
+use Rattle.machine_states.specs.table_words.specs.Places.{keeper_blocks}
 use Rattle.machine_states.specs.structure_laws.specs.Scene.{Readings}
 use Rattle.machine_states.specs.structure_laws.specs.Meaning.{Meaning}
 use Rattle.machine_states.specs.runner_parts.specs.Tests.{has}
@@ -20,12 +21,14 @@ pub record IsFront {A : Type 0} (front whole : List A) : Type 0 where
   pub parts : whole ≡ front ++ back
 
 module _ {T : Type 0} where
-  -- the keeper has joined all workers, is idle, and has all its own node slots free: two for each worker and two more
+  -- the keeper has joined all workers, is idle, and has all its own node slots free: two for each worker and two more;
+  -- and all its own blocks
   pub record MaySettle (t : TableState T) (r : RunnerState T) : Type 0 where
     pub joined : HasJoinedAll t r
     pub told : (worker : ℕ) → worker < t.layout.runners → has r.part.records.joined worker ≡ true
     pub tidy : IsTidy r
     pub free : length r.part.nodes.free ≡ 2 * t.layout.runners + 2
+    pub blocks : length r.part.blocks.free ≡ keeper_blocks t.layout
 
 module _ (m : Meaning) where
   -- each place in these readings is a lock

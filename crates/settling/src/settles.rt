@@ -105,9 +105,10 @@ fn clear_locks<S: Structure>(table: &FlockTable<S>, keeper: Runner<S>) -> Runner
 /// Settles a table whose workers have all been joined: enters, loads every lock, runs each section that one names to
 /// its end, and leaves.
 ///
-/// The keeper has joined each worker, is idle, and has all its own node slots free. Its two node slots for each worker
-/// and two more are enough, since each worker left at most one section; so it makes at most as many runs as there are
-/// workers. There is no refusal, no memory is taken, and nothing waits.
+/// The keeper has joined each worker, is idle, and has all its own node slots and blocks free. Its two node slots for
+/// each worker and two more are enough, and so are its blocks for one log of each, since each worker left at most one
+/// section; so it makes at most as many runs as there are workers. There is no refusal, no memory is taken, and nothing
+/// waits.
 ///
 /// At return no lock names a section, and each request that has a stamp has its reply: in every state that the machine
 /// reaches in which the keeper has the part that it has then, so also in the words that `FlockTable::close` gives for

@@ -8,6 +8,7 @@ use Rattle.runner_steps.specs.body_terms.specs.Word.{value_of, version_of, is_fr
 use Rattle.runner_steps.specs.body_terms.specs.declared.outcome.Outcome.{Outcome}
 use Rattle.runner_steps.specs.body_terms.specs.declared.outcome.Refused.{Refused}
 use Rattle.runner_steps.specs.body_terms.specs.declared.thunk.Thunk.{Thunk}
+use Rattle.runner_steps.specs.table_words.specs.Places.{attempt_blocks}
 use Rattle.runner_steps.specs.table_words.specs.declared.layout.Layout.{Layout}
 use Rattle.runner_steps.specs.runner_parts.specs.structure_laws.specs.Tray.{tray}
 use Rattle.runner_steps.specs.runner_parts.specs.declared.entries.Known.{Known}
@@ -25,11 +26,13 @@ use Rattle.try_lock.specs.commit_log.specs.version_words.specs.Naming.{load_of}
 use Rattle.try_lock.specs.commit_log.specs.version_words.specs.Stages.{IsAt}
 use Rattle.try_lock.specs.commit_log.specs.version_words.proofs.Stages.{then_loaded_cell}
 use Rattle.try_lock.specs.epoch_slots.specs.Entries.{HasLeave, Enters, Exits}
-use Rattle.try_lock.specs.epoch_slots.proofs.Outside.{nodes_made, descriptors_made, guards_made, reads_made, known_made}
+use Rattle.try_lock.specs.epoch_slots.proofs.Outside.{nodes_made, descriptors_made, no_fewer_blocks, guards_made, reads_made, known_made}
 use Rattle.try_lock.specs.commit_log.specs.Runs.{Ran}
+use Rattle.try_lock.specs.commit_log.proofs.Running.{moved_same}
 use Rattle.try_lock.specs.declared.section.Section.{Section}
 use Rattle.try_lock.specs.Ends.{EndsSo, IsCutShort}
 use Rattle.try_lock.specs.Publishes.{MayPublish, Publishes}
+use Rattle.try_lock.proofs.Blocks.{for_one}
 use Rattle.try_lock.proofs.Guarding.{may_let_go, guard_at, guard_named, guard_keeps, guard_keeps_else}
 use Rattle.try_lock.proofs.Watching.{same_looked}
 use Rattle.speed.specs.Scenes.{eight_requests, IsScene}
@@ -96,8 +99,8 @@ none_kept x d same = ap (λ b. if b then None else Some x) (eq-eqb x.descriptor 
 
 module _ {T : Type 0} where
   pub then_read : (idle entered r : RunnerState T) (request word : ℕ) → IsBefore request idle → 2 ≤ length idle.part.nodes.free → 1 ≤ length idle.part.descriptors.free
-      → Enters tray idle entered → Makes tray (load_of entered.part.run 0) word entered r → HasRead request word r
-  then_read idle entered r request word before enough some enters made =
+      → attempt_blocks ≤ length idle.part.blocks.free → Enters tray idle entered → Makes tray (load_of entered.part.run 0) word entered r → HasRead request word r
+  then_read idle entered r request word before enough some for_logs enters made =
       let resting = enters.at.resting in
       let load : Makes tray (kinds.LoadCell (Some 0)) word entered r = subst (λ o. Makes tray (load_of o 0) word entered r) resting made in
       let reads = reads_made tray (kinds.LoadCell (Some 0)) word entered r load resting in
@@ -111,6 +114,8 @@ module _ {T : Type 0} where
         knows = subst (KnowsBelow request) (sym (known_made tray (kinds.LoadCell (Some 0)) word entered r load resting ∙ enters.keeps.known)) before.knows;
         nodes = subst (λ (n : NodesState). 2 ≤ length n.free) (sym nodes) enough;
         descriptors = subst (λ (d : DescriptorsState). 1 ≤ length d.free) (sym descriptors) some;
+        blocks = (let entered_too = enters.keeps.blocks in
+            let more = no_fewer_blocks tray (kinds.LoadCell (Some 0)) word entered r load resting in omega (arith, for_logs, entered_too, more));
         hand = ap (λ (n : NodesState). n.hand) nodes ∙ before.tidy.hand;
         tests = ap (λ (n : NodesState). n.tests) nodes ∙ before.tidy.tests;
         looked = ap (λ (g : GuardsState). g.looked) (guards_made tray (kinds.LoadCell (Some 0)) word entered r load resting)
@@ -152,6 +157,7 @@ module _ {T : Type 0} where
             at = won.at may.epoch may.at;
             section = won.section;
             reserve = subst (λ (n : NodesState). 2 ≤ length n.free) (sym publishes.nodes) read.nodes;
+            blocks = (let had = for_one (length old.part.blocks.free) read.blocks in let more = publishes.blocks in omega (arith, had, more));
             reached = publishes.reached;
           };
           number = publishes.number ∙ read.number;
@@ -163,7 +169,7 @@ module _ {T : Type 0} where
 
   ran_number : (n : ℕ) (old new : RunnerState T) → Ran tray n old new → new.number ≡ old.number
   ran_number zero old new same = ap (λ (r : RunnerState T). r.number) same
-  ran_number (suc n) old new (r, q, micro, found, step, rest) = ran_number n r new rest ∙ ap (λ (y : RunnerState T). y.number) step.event.made
+  ran_number (suc n) old new (r, q, found, moved, rest) = ran_number n r new rest ∙ ap (λ (y : RunnerState T). y.number) (moved_same tray q found old r moved)
 
   -- a worker that was halted in a run has its number
   pub cut_number : (d made : ℕ) (old new : RunnerState T) → IsCutShort tray d made old new → new.number ≡ old.number

@@ -1,6 +1,7 @@
 -- The worker on its way to a section and through it.
 use Rattle.std.specs.Prelude.{◌≡◌, ℕ, ◌<◌, ◌≤◌, List, [], true, length, slice_get, Some, None}
 use Rattle.runner_steps.specs.body_terms.specs.declared.thunk.Thunk.{Thunk}
+use Rattle.runner_steps.specs.table_words.specs.Places.{attempt_blocks}
 use Rattle.runner_steps.specs.runner_parts.specs.structure_laws.specs.Tray.{tray}
 use Rattle.runner_steps.specs.runner_parts.specs.declared.entries.Known.{Known}
 use Rattle.runner_steps.specs.runner_parts.specs.epoch_core.specs.declared.stage.Stage.TheVariants as stages
@@ -31,6 +32,7 @@ module _ {T : Type 0} where
     pub knows : KnowsBelow request r.part.records.known
     pub nodes : 2 ≤ length r.part.nodes.free
     pub descriptors : 1 ≤ length r.part.descriptors.free
+    pub blocks : attempt_blocks ≤ length r.part.blocks.free
     pub hand : r.part.nodes.hand ≡ []
     pub tests : r.part.nodes.tests ≡ []
     pub looked : r.part.guards.looked ≡ []

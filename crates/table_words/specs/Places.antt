@@ -26,6 +26,11 @@ worker_blocks layout = 0
 abbrev pub keeper_blocks : Layout → ℕ
 keeper_blocks layout = 0
 
+-- how many free blocks an attempt may want: those for the log of its own section, and those for the log of one that it
+-- helps. With parts of seven words they are sixteen
+abbrev pub attempt_blocks : ℕ
+attempt_blocks = 0
+
 -- the number of all blocks
 abbrev pub block_count : Layout → ℕ
 block_count layout = worker_blocks layout * layout.runners + keeper_blocks layout

@@ -14,6 +14,10 @@ pub const LINE_WORDS: usize = 16;
 /// a block that is linked to the part before it.
 pub const PART_WORDS: usize = 64;
 
+/// How many free blocks an attempt may want: those for the log of its own section, and those for the log of one that it
+/// helps.
+pub const ATTEMPT_BLOCKS: usize = 0;
+
 /// The words of one descriptor: twelve thunk words, a done word, a part of the log and its link.
 pub const DESCRIPTOR_WORDS: usize = 14 + PART_WORDS;
 

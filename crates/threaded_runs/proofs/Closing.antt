@@ -7,10 +7,12 @@ use Rattle.std.proofs.lemmas.Bool.{cases_lt}
 use Rattle.std.proofs.lemmas.Option.{slice_get_within}
 use Rattle.machine_states.specs.epoch_core.specs.small_lemmas.proofs.Bools.{from_both as true_false}
 use Rattle.machine_states.specs.map_history.specs.declared.op.Request.{Request}
+use Rattle.machine_states.specs.table_words.specs.Places.{worker_blocks, attempt_blocks}
 use Rattle.machine_states.specs.table_words.specs.declared.layout.Layout.{Layout}
 use Rattle.machine_states.specs.table_words.specs.declared.spot.Spot.{Spot}
 use Rattle.machine_states.specs.table_words.specs.declared.spot.Spot.TheVariants.{Cell, Stamp, DoneWord}
 use Rattle.machine_states.specs.table_words.specs.Seen.{seen}
+use Rattle.machine_states.specs.guard_core.specs.State.{most_linked}
 use Rattle.machine_states.specs.structure_laws.specs.Cells as cells
 use Rattle.machine_states.specs.structure_laws.specs.Meaning.{Meaning}
 use Rattle.machine_states.specs.runner_parts.specs.declared.entries.Known.{Known}
@@ -26,7 +28,7 @@ use Rattle.machine_states.specs.runner_parts.specs.Lists.{entry_count}
 use Rattle.version_words.specs.machine_invariant.specs.Lengths.{ListsAreShort}
 use Rattle.settled_tables.specs.settling.specs.runner_gate.specs.Asks.{Asks}
 use Rattle.reached_facts.specs.keeper_facts.specs.runner_facts.specs.Own.{HasOwn, OwnStand}
-use Rattle.reached_facts.specs.keeper_facts.specs.runner_facts.specs.Facts.{LimboIsDone, DescriptorsAreKept, HasWornCell, WornAreWorn, descriptors_of, published_count}
+use Rattle.reached_facts.specs.keeper_facts.specs.runner_facts.specs.Facts.{LimboIsDone, DescriptorsAreKept, BlocksAreKept, HasWornCell, WornAreWorn, descriptors_of, published_count, blocks_of, blocks_of_run}
 use Rattle.free_serving.specs.lock_words.specs.Spent.{IsLate, IsPast, IsSpentAt, SpentStand}
 use Rattle.reached_facts.specs.request_facts.specs.reached_histories.specs.Sections.{Knows, HasOpen}
 use Rattle.reached_facts.specs.request_facts.specs.reached_histories.specs.Laws.{HasHistory}
@@ -223,7 +225,7 @@ module _ {T : Type 0} (m : Meaning) (t : TableState T) (keeper : RunnerState T) 
     same_request : (q q' : Request) → slice_get own count ≡ Some q → slice_get own count ≡ Some q' → is_answered new.part.records.known q.number ≡ false → is_answered new.part.records.known q'.number ≡ false
     same_request q q' e e' unknown_so = subst (λ (y : Request). is_answered new.part.records.known y.number ≡ false) (some_same q q' (sym e ∙ e')) unknown_so
 
-    module _ (low : worker < t.layout.runners) (own_new : IsOf t new) (number : new.number ≡ worker) (kept : DescriptorsAreKept t.layout end) (spent : SpentStand m t.layout end) (worn : WornAreWorn m t.layout end)
+    module _ (low : worker < t.layout.runners) (own_new : IsOf t new) (number : new.number ≡ worker) (kept : DescriptorsAreKept t.layout end) (blocks_kept : BlocksAreKept t.layout end) (spent : SpentStand m t.layout end) (worn : WornAreWorn m t.layout end)
         (once_worn : (i j slot : ℕ) → slice_get (end.part worker).nodes.worn i ≡ Some slot → slice_get (end.part worker).nodes.worn j ≡ Some slot → i ≡ j)
         (many : t.layout.nodes ≤ slots_left (end.part worker).nodes + 2 * added end.word (length t.requests)) (lists : ListsAreShort m t.layout end) where
       -- where the request behind them was just served, it has an entry
@@ -243,6 +245,10 @@ module _ {T : Type 0} (m : Meaning) (t : TableState T) (keeper : RunnerState T) 
             worn = ap version_of (word_is (Cell (cell_of m.fixed_cells slot at.cell))) ∙ (at.worn ∙ ap (λ (l : Layout). l.version_max) (sym closing.layout));
           }
 
+      -- of the other kinds none wears
+      none_worn_of : (short : Short) → 0 ≡ short.worn → AreWornOut m w short.worn
+      none_worn_of short none = record { slots = []; many = none; once = λ i j slot e e'. some_none slot e; each = λ i slot e. some_none slot e }
+
       worn_slots : (short : Short) → (k : Kind) → short ≡ counts_of new k → AreWornOut m w short.worn
       worn_slots short slots.Node counts = record {
         slots = new.part.nodes.worn;
@@ -250,12 +256,8 @@ module _ {T : Type 0} (m : Meaning) (t : TableState T) (keeper : RunnerState T) 
         once = λ i j slot e e'. once_worn i j slot (ap (λ (p : PartState). slice_get p.nodes.worn i) part ∙ e) (ap (λ (p : PartState). slice_get p.nodes.worn j) part ∙ e');
         each = worn_there;
       }
-      worn_slots short slots.Descriptor counts = record {
-        slots = [];
-        many = sym (ap (λ (x : Short). x.worn) counts);
-        once = λ i j slot e e'. some_none slot e;
-        each = λ i slot e. some_none slot e;
-      }
+      worn_slots short slots.Descriptor counts = none_worn_of short (sym (ap (λ (x : Short). x.worn) counts))
+      worn_slots short slots.Block counts = none_worn_of short (sym (ap (λ (x : Short). x.worn) counts))
 
       -- the word at which the worker stopped
       past_of : (place word : ℕ) → IsPast end.word place word → IsPast (word_of m w) place word
@@ -292,6 +294,22 @@ module _ {T : Type 0} (m : Meaning) (t : TableState T) (keeper : RunnerState T) 
             ap (λ (x : Short). x.free) same ∙ lacks,
             ap (λ (x : Short). x.worn) same,
             ap (λ (x : Short). x.limbo) same ∙ all_in_limbo lacks nothing,
+          )
+
+      -- where blocks lacked, those that weren't free were in limbo: it was in no run
+      short_blocks : (short : Short) → IsFew new short.kind → short ≡ counts_of new short.kind → new.part.run ≡ None → short.kind ≡ slots.Block
+          → (short.free < attempt_blocks) × (short.worn ≡ 0) × (short.free + short.limbo ≡ worker_blocks w.layout)
+      short_blocks short few counts resting kind =
+          let same : short ≡ counts_of new slots.Block = counts ∙ ap (counts_of new) kind in
+          let lacks = (subst (λ (k : Kind). IsFew new k) kind few).2 in
+          let free : short.free ≡ length new.part.blocks.free = ap (λ (x : Short). x.free) same in
+          let limbo : short.limbo ≡ length new.part.blocks.limbo = ap (λ (x : Short). x.limbo) same in
+          let sum : length new.part.blocks.free + (length new.part.blocks.limbo + blocks_of_run new.part.run) ≡ worker_blocks t.layout = sym (ap blocks_of part) ∙ blocks_kept.worker worker low in
+          let idle : blocks_of_run new.part.run ≡ 0 = ap blocks_of_run resting in
+          let layout : worker_blocks w.layout ≡ worker_blocks t.layout = ap (λ (l : Layout). worker_blocks l) closing.layout in (
+            subst (λ (n : ℕ). n < attempt_blocks) (sym free) lacks,
+            ap (λ (x : Short). x.worn) same,
+            omega (arith, free, limbo, sum, idle, layout),
           )
 
       -- its hand is empty, so its slots outside limbo are free or worn
@@ -352,6 +370,8 @@ module _ {T : Type 0} (m : Meaning) (t : TableState T) (keeper : RunnerState T) 
         most = short_most short stops.cause.counts;
         descriptors = short_descriptors short stops.cause.few stops.cause.counts tidy.at.published;
         named = λ kind. subst (λ (l : Layout). short.limbo ≤ l.runners) (own_new.layout ∙ sym closing.layout) (stops.cause.named kind);
+        blocks = short_blocks short stops.cause.few stops.cause.counts tidy.at.resting;
+        kept = λ kind. subst (λ (l : Layout). short.limbo ≤ most_linked * l.runners) (own_new.layout ∙ sym closing.layout) (stops.cause.kept kind);
       }
 
       -- as many have an entry as were served, or one more, whose section it published

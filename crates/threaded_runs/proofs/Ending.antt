@@ -144,14 +144,14 @@ module _ {T : Type 0} (m : Meaning) (planning : Planning) (retry_short reads_fre
       served_so = subst (λ (rs : List Request). HasServed m w retry_short reads_free rs f.answer) is_seated.requests
           (has_served m t keeper w closing lawful.planner.serves facts.history facts.callers
           worker j.requests.items retry_short reads_free planning f.answer j.runner f.runner part _ _ _ _ _ has_run.serves.left there trace once
-          low has_run.own (has_run.serves.left.knows.number ∙ is_seated.number) facts.descriptors facts.spent facts.worn (facts.worn_once worker) made facts.lists)
+          low has_run.own (has_run.serves.left.knows.number ∙ is_seated.number) facts.descriptors facts.blocks facts.spent facts.worn (facts.worn_once worker) made facts.lists)
 
       -- so many of its requests have an entry, and one more at most where it was halted
       few_own : count_by (λ (q : Request). not (stamp_of m w q == 0)) (own_requests t.layout.runners worker t.requests) ≤ has_run.serves.left.full + halted f.answer
       few_own = subst (λ (rs : List Request). count_by (λ (q : Request). not (stamp_of m w q == 0)) rs ≤ has_run.serves.left.full + halted f.answer) is_seated.requests
           (few_entered m t keeper w closing lawful.planner.serves facts.history facts.callers
           worker j.requests.items retry_short reads_free planning f.answer j.runner f.runner part _ _ _ _ _ has_run.serves.left there trace once
-          low has_run.own (has_run.serves.left.knows.number ∙ is_seated.number) facts.descriptors facts.spent facts.worn (facts.worn_once worker) made facts.lists)
+          low has_run.own (has_run.serves.left.knows.number ∙ is_seated.number) facts.descriptors facts.blocks facts.spent facts.worn (facts.worn_once worker) made facts.lists)
 
       -- and its gate was asked for each that it served
       asked_own : min (least_asks reads_free * has_run.serves.left.full) (2 ^ 64 - 1) ≤ (asks f.gate).count
@@ -162,7 +162,7 @@ module _ {T : Type 0} (m : Meaning) (planning : Planning) (retry_short reads_fre
           → (d : ℕ) → w.layout.sections * worker ≤ d → d < w.layout.sections * worker + w.layout.sections → word_of m w (DoneWord d) ≡ 1
       done_so short is kind = descriptors_done m t keeper w closing lawful.planner.serves facts.history facts.callers
           worker j.requests.items retry_short reads_free planning f.answer j.runner f.runner part _ _ _ _ _ has_run.serves.left there trace once
-          low has_run.own (has_run.serves.left.knows.number ∙ is_seated.number) facts.descriptors facts.spent facts.worn (facts.worn_once worker) made facts.lists
+          low has_run.own (has_run.serves.left.knows.number ∙ is_seated.number) facts.descriptors facts.blocks facts.spent facts.worn (facts.worn_once worker) made facts.lists
           facts.own facts.limbo short is kind
 
       -- where it reads each `get` first, each of its own that has an entry has a read's stamp, or was read in vain
@@ -172,7 +172,7 @@ module _ {T : Type 0} (m : Meaning) (planning : Planning) (retry_short reads_fre
       read_so free i q at get some = ⊎_elim inl (λ vain. inr (j.runner, is_seated.may.own.layout, is_seated.may.own.requests, vain))
           (read_odd m t keeper w closing lawful.planner.serves facts.history facts.callers
           worker j.requests.items retry_short reads_free planning f.answer j.runner f.runner part _ _ _ _ _ has_run.serves.left there trace once
-          low has_run.own (has_run.serves.left.knows.number ∙ is_seated.number) facts.descriptors facts.spent facts.worn (facts.worn_once worker) made facts.lists
+          low has_run.own (has_run.serves.left.knows.number ∙ is_seated.number) facts.descriptors facts.blocks facts.spent facts.worn (facts.worn_once worker) made facts.lists
           free i q (subst (λ (rs : List Request). slice_get rs i ≡ Some q) (sym is_seated.requests) at) get some)
 
     -- the worker with this answer is one

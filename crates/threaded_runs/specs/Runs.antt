@@ -1,8 +1,10 @@
 -- What a run of traces on a table leaves.
 use Rattle.std.specs.Prelude.{◌≡◌, ◌≢◌, ℕ, ◌+◌, ◌*◌, ◌<◌, ◌≤◌, ◌⊎◌, ◌==◌, Bool, false, not, List, length, count_by, Some, slice_get}
 use Rattle.machine_states.specs.map_history.specs.declared.op.Request.{Request}
+use Rattle.machine_states.specs.table_words.specs.Places.{worker_blocks, attempt_blocks}
 use Rattle.machine_states.specs.table_words.specs.declared.layout.Layout.{Layout}
 use Rattle.machine_states.specs.table_words.specs.declared.spot.Spot.TheVariants.{Stamp, Reply, DoneWord}
+use Rattle.machine_states.specs.guard_core.specs.State.{most_linked}
 use Rattle.machine_states.specs.structure_laws.specs.Cells as cells
 use Rattle.machine_states.specs.structure_laws.specs.Meaning.{Meaning}
 use Rattle.version_words.specs.TableState.{WordsState, word_of}
@@ -63,6 +65,11 @@ module _ {T : Type 0} (m : Meaning) (w : WordsState T) where
     pub descriptors : short.kind ≡ kinds.Descriptor
         → (short.free ≡ 0) × (short.worn ≡ 0) × (short.limbo ≡ w.layout.sections)
     pub named : short.kind ≡ kinds.Descriptor → short.limbo ≤ w.layout.runners
+    -- where too few blocks were free for two logs, the worker's others were in limbo, and guard words of other runners
+    -- named the sections in whose logs they had been: each keeps as many as one log has at most
+    pub blocks : short.kind ≡ kinds.Block → (short.free < attempt_blocks) × (short.worn ≡ 0)
+        × (short.free + short.limbo ≡ worker_blocks w.layout)
+    pub kept : short.kind ≡ kinds.Block → short.limbo ≤ most_linked * w.layout.runners
 
   -- why the worker served so many of its requests and no more: at All these are all of them
   abbrev pub IsCause : Bool → List Request → Served → ℕ → Type 0

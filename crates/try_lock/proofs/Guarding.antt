@@ -11,7 +11,7 @@ use Rattle.section_runs.specs.commit_log.specs.version_words.specs.Events.{IsEna
 use Rattle.section_runs.specs.commit_log.specs.version_words.specs.Stages.{IsAt}
 use Rattle.section_runs.specs.commit_log.specs.version_words.proofs.Stages.{may_guard as guard_enabled, made_at}
 use Rattle.epoch_slots.specs.Entries.{KeepsOwn}
-use Rattle.epoch_slots.proofs.Outside.{guards_made, reads_made, own_kept}
+use Rattle.epoch_slots.proofs.Outside.{blocks_made, guards_made, reads_made, own_kept}
 use Rattle.try_lock.specs.Prepares.{KeepsElse}
 
 module _ {T : Type 0} (m : Meaning) where
@@ -43,6 +43,7 @@ module _ {T : Type 0} (m : Meaning) where
         nodes = guard_keeps.nodes;
         free = ap (λ x. x.free) guard_keeps.descriptors;
         limbo = ap (λ x. x.limbo) guard_keeps.descriptors;
+        blocks = blocks_made m (kinds.Guard d) found r g made resting;
         looked = ap (λ (x : GuardsState). x.looked) (guards_made m (kinds.Guard d) found r g made resting);
         reads = guard_reads;
         known = guard_keeps.known;

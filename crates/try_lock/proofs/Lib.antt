@@ -1,3 +1,4 @@
+pub mod Blocks
 mod Preparing
 mod Publishing
 pub mod Guarding

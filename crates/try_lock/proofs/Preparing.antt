@@ -19,11 +19,12 @@ use Rattle.machine_states.specs.runner_parts.specs.Lists.{descriptor_stored, nod
 use Rattle.machine_states.specs.runner_steps.specs.Outside.{blocks_from}
 use Rattle.machine_states.specs.runner_steps.specs.AfterOutside.{stored_if, descriptor_known}
 use Rattle.machine_states.specs.runner_steps.specs.After.{outside_after}
+use Rattle.machine_states.specs.runner_steps.specs.Blocks.{blocks_outside}
 use Rattle.section_runs.specs.commit_log.specs.version_words.specs.RunnerState.{RunnerState}
 use Rattle.section_runs.specs.commit_log.specs.version_words.specs.Events.{IsEnabled, Makes}
 use Rattle.section_runs.specs.commit_log.specs.version_words.specs.Stages.{IsAt}
 use Rattle.section_runs.specs.commit_log.specs.version_words.proofs.Stages.{may_load_word, may_store_word, then_loaded_word, then_stored_word}
-use Rattle.epoch_slots.proofs.Outside.{nodes_made, descriptors_made, guards_made, reads_made, known_made, finished_made}
+use Rattle.epoch_slots.proofs.Outside.{nodes_made, descriptors_made, blocks_made, guards_made, reads_made, known_made, finished_made}
 use Rattle.try_lock.specs.Prepares.{MaySet, KeepsElse, Stores, SetsWord, SetsWords, HasSet, IsReady}
 
 -- what is known of a word after one more store
@@ -43,7 +44,7 @@ module _ (p q : DescriptorsState) (d word n : ℕ) (is : q ≡ descriptor_stored
 
 module _ {T : Type 0} where
   pub keeps_all : (r : RunnerState T) → KeepsElse r r
-  keeps_all r = record { number = refl; layout = refl; requests = refl; nodes = refl; free = refl; limbo = refl; looked = refl; reads = refl; known = refl; finished = refl }
+  keeps_all r = record { number = refl; layout = refl; requests = refl; nodes = refl; free = refl; limbo = refl; blocks = refl; looked = refl; reads = refl; known = refl; finished = refl }
 
   pub keeps_on : (a b c : RunnerState T) → KeepsElse a b → KeepsElse b c → KeepsElse a c
   keeps_on a b c one two = record {
@@ -53,6 +54,7 @@ module _ {T : Type 0} where
     nodes = two.nodes ∙ one.nodes;
     free = two.free ∙ one.free;
     limbo = two.limbo ∙ one.limbo;
+    blocks = two.blocks ∙ one.blocks;
     looked = two.looked ∙ one.looked;
     reads = two.reads ∙ one.reads;
     known = two.known ∙ one.known;
@@ -72,8 +74,9 @@ module _ {T : Type 0} where
 
     noted_by : (k : EventKind) (found n : ℕ) (r' : RunnerState T) → Makes m k found r r' → r.part.run ≡ None
         → outside_after m r.layout k r.part found ≡ record (r.part) { descriptors = descriptor_stored r.part.descriptors d word n }
+        → blocks_outside m r.layout k r.part found ≡ r.part.blocks
         → ((epoch : ℕ) → IsAt r (stages.Entered epoch) None → IsAt r' (stages.Entered epoch) None) → IsNoted d word n r r'
-    noted_by k found n r' made resting part at =
+    noted_by k found n r' made resting part blocks at =
         let stored : r'.part.descriptors ≡ descriptor_stored r.part.descriptors d word n =
         descriptors_made m k found r r' made resting ∙ ap (λ (p : PartState). p.descriptors) part in
         record {
@@ -84,6 +87,7 @@ module _ {T : Type 0} where
             nodes = nodes_made m k found r r' made resting ∙ ap (λ (p : PartState). p.nodes) part;
             free = ap (λ (x : DescriptorsState). x.free) stored;
             limbo = ap (λ (x : DescriptorsState). x.limbo) stored;
+            blocks = blocks_made m k found r r' made resting ∙ blocks;
             looked = ap (λ (g : GuardsState). g.looked) (guards_made m k found r r' made resting ∙ ap (λ (p : PartState). p.guards) part);
             reads = reads_made m k found r r' made resting ∙ ap (λ (p : PartState). p.reads) part;
             known = known_made m k found r r' made resting ∙ ap (λ (p : PartState). p.records.known) part;
@@ -110,6 +114,7 @@ module _ {T : Type 0} where
         else descriptor_known m r.layout (slots + d) word r.part found) past
         ∙ (ap (λ (b : Bool). record (r.part) { descriptors = stored_if b r.part.descriptors (slots + d - slots) word found }) (before_blocks low)
         ∙ ap (λ (n : ℕ). record (r.part) { descriptors = descriptor_stored r.part.descriptors n word found }) own_word))
+        refl
         (λ epoch at. then_loaded_word m found r r' (stages.Entered epoch) None (slots + d) word at made)
 
     -- the word was stored
@@ -118,6 +123,7 @@ module _ {T : Type 0} where
         noted_by (kinds.PrivateStore (slots + d) word n) found n r' made resting
         (ap (λ (b : Bool). record (r.part) { descriptors = stored_if b r.part.descriptors (slots + d - slots) word n }) (before_blocks low)
         ∙ ap (λ (i : ℕ). record (r.part) { descriptors = descriptor_stored r.part.descriptors i word n }) own_word)
+        refl
         (λ epoch at. then_stored_word m found r r' (stages.Entered epoch) None (slots + d) word at n made)
 
   noted_on : (d word n n' : ℕ) (a b c : RunnerState T) → IsNoted d word n a b → IsNoted d word n' b c → IsNoted d word n' a c

@@ -21,7 +21,7 @@ use Rattle.machine_states.specs.structure_laws.specs.Meaning.{Meaning}
 use Rattle.machine_states.specs.structure_laws.specs.Laws.{Laws}
 use Rattle.machine_states.specs.runner_parts.specs.declared.event.EventKind.TheVariants as kinds
 use Rattle.machine_states.specs.epoch_core.specs.declared.stage.Stage.TheVariants as stages
-use Rattle.machine_states.specs.runner_parts.specs.State.{GuardsState, DescriptorsState, PartState}
+use Rattle.machine_states.specs.runner_parts.specs.State.{GuardsState, DescriptorsState, BlocksState, PartState}
 use Rattle.machine_states.specs.runner_parts.specs.Tests.{has, is_walking, is_open, last_stored, is_prepared, is_between, is_some_of}
 use Rattle.machine_states.specs.runner_parts.specs.Lists.{without, cell_read, descriptor_taken, published_seen}
 use Rattle.machine_states.specs.runner_steps.specs.Outside.{when, is_ready, is_publishable, is_due, descriptor_spot, is_sure_of}
@@ -43,7 +43,7 @@ use Rattle.section_runs.specs.commit_log.specs.version_words.specs.Events.{IsEna
 use Rattle.section_runs.specs.commit_log.specs.version_words.specs.Stages.{IsAt}
 use Rattle.section_runs.specs.commit_log.specs.version_words.proofs.Holds.{holds_so}
 use Rattle.section_runs.specs.commit_log.specs.version_words.proofs.Stages.{enabled, made_at}
-use Rattle.epoch_slots.proofs.Outside.{nodes_made, descriptors_made, guards_made, reads_made, known_made, finished_made}
+use Rattle.epoch_slots.proofs.Outside.{nodes_made, descriptors_made, no_fewer_blocks, guards_made, reads_made, known_made, finished_made}
 use Rattle.try_lock.specs.declared.section.Section.{Section}
 use Rattle.try_lock.specs.Reached.{IsReached, IsSectionOf}
 use Rattle.try_lock.specs.Prepares.{MaySet, KeepsElse, IsReady}
@@ -150,6 +150,9 @@ module _ {T : Type 0} (m : Meaning) (t : Thunk) (d found : ℕ) (r b r' : Runner
 
   pub limbo_held : r'.part.descriptors.limbo ≡ r.part.descriptors.limbo
   limbo_held = ap (λ x. x.limbo) (descriptors_made m (kinds.Hold t d) found b r' made at.resting) ∙ (by_test (λ p. p.descriptors.limbo) b.part.descriptors.limbo refl refl ∙ keeps.limbo)
+
+  pub blocks_held : length r.part.blocks.free ≤ length r'.part.blocks.free
+  blocks_held = let same = ap (λ (b : BlocksState). length b.free) keeps.blocks in let more = no_fewer_blocks m (kinds.Hold t d) found b r' made at.resting in omega (arith, same, more)
 
   pub looked_held : r'.part.guards.looked ≡ r.part.guards.looked
   looked_held = ap (λ x. x.looked) (guards_made m (kinds.Hold t d) found b r' made at.resting) ∙ (by_test (λ p. p.guards.looked) b.part.guards.looked refl refl ∙ keeps.looked)
@@ -320,6 +323,7 @@ module _ {T : Type 0} (m : Meaning) (laws : Laws m) (r b g r' : RunnerState T) (
         number = number_held m t d found r g r' whole.keeps whole.at whole.named may.epoch may.at made;
         nodes = nodes_held m t d found r g r' whole.keeps whole.at whole.named may.epoch may.at made;
         limbo = limbo_held m t d found r g r' whole.keeps whole.at whole.named may.epoch may.at made;
+        blocks = blocks_held m t d found r g r' whole.keeps whole.at whole.named may.epoch may.at made;
         looked = looked_held m t d found r g r' whole.keeps whole.at whole.named may.epoch may.at made;
         known = known_held m t d found r g r' whole.keeps whole.at whole.named may.epoch may.at made;
         finished = finished_held m t d found r g r' whole.keeps whole.at whole.named may.epoch may.at made;
@@ -344,6 +348,7 @@ module _ {T : Type 0} (m : Meaning) (laws : Laws m) (r b g r' : RunnerState T) (
     number = number_held m t d found r g r' whole.keeps whole.at whole.named may.epoch may.at made;
     nodes = nodes_held m t d found r g r' whole.keeps whole.at whole.named may.epoch may.at made;
     limbo = limbo_held m t d found r g r' whole.keeps whole.at whole.named may.epoch may.at made;
+    blocks = blocks_held m t d found r g r' whole.keeps whole.at whole.named may.epoch may.at made;
     looked = looked_held m t d found r g r' whole.keeps whole.at whole.named may.epoch may.at made;
     known = known_held m t d found r g r' whole.keeps whole.at whole.named may.epoch may.at made;
     finished = finished_held m t d found r g r' whole.keeps whole.at whole.named may.epoch may.at made;

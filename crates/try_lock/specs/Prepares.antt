@@ -26,6 +26,7 @@ module _ {T : Type 0} where
     pub nodes : new.part.nodes ≡ old.part.nodes
     pub free : new.part.descriptors.free ≡ old.part.descriptors.free
     pub limbo : new.part.descriptors.limbo ≡ old.part.descriptors.limbo
+    pub blocks : new.part.blocks ≡ old.part.blocks
     pub looked : new.part.guards.looked ≡ old.part.guards.looked
     pub reads : new.part.reads ≡ old.part.reads
     pub known : new.part.records.known ≡ old.part.records.known

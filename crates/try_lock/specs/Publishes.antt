@@ -82,6 +82,8 @@ module _ {T : Type 0} (m : Meaning) where
     pub number : new.number ≡ old.number
     pub nodes : new.part.nodes ≡ old.part.nodes
     pub limbo : new.part.descriptors.limbo ≡ old.part.descriptors.limbo
+    -- of its blocks those come out of limbo that lie there under this descriptor, where the exchange won
+    pub blocks : length old.part.blocks.free ≤ length new.part.blocks.free
     pub looked : new.part.guards.looked ≡ old.part.guards.looked
     pub known : new.part.records.known ≡ old.part.records.known
     pub finished : new.part.records.finished ≡ old.part.records.finished

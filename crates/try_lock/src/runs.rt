@@ -21,8 +21,9 @@ use section_runs::{RunEnd, run};
 /// words of its log, which are the same for each run of the section; the trail is late where the section was done as
 /// the run began.
 ///
-/// The runner is entered and in no run, and has a reserve of two node slots. It makes at most as many atomic steps as
-/// `cost` of the body says; each is counted, and the gate is asked after it. At `Done` the section is done, and none of
+/// The runner is entered and in no run, and has a reserve of two node slots, and of the blocks of the longest log. It
+/// makes at most as many atomic steps as `cost` of the body says, and those of a link for each block that its log
+/// needs; each is counted, and the gate is asked after it. At `Done` the section is done, and none of
 /// its locks is held by it. `Halted` comes only where the gate's count rose. No memory is taken, and nothing waits
 /// (Ben-David, Blelloch, Wei, 2022).
 pub fn run_section<S: Structure, G: Gate, L>(
@@ -51,7 +52,7 @@ pub fn run_section<S: Structure, G: Gate, L>(
 /// Helps: runs the section that this lock word names, whatever its publisher and others do, as `run_section` does.
 ///
 /// The runner has watched the lock, which had this word still, so it is sure of the section's descriptor. It is in no
-/// run, and has a reserve of two node slots.
+/// run, and has a reserve of two node slots, and of the blocks of the longest log.
 pub fn help<S: Structure, G: Gate, L>(
     table: &FlockTable<S>,
     runner: Runner<S>,

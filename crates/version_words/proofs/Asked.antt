@@ -25,7 +25,7 @@ use Rattle.std.proofs.lemmas.Bool.Decides.{nat_tests}
 use Rattle.std.proofs.lemmas.Option.{none-some}
 use Rattle.std.proofs.lemmas.Bool.{false≢true}
 use Rattle.runner_block.specs.Scans.{scan_of}
-use Rattle.machine_states.proofs.Blockless.{ask_by, outside_ask, line_ask, unblocked}
+use Rattle.machine_states.specs.runner_steps.specs.Asks.{ask_by, outside_ask, line_ask}
 use Rattle.version_words.specs.RunnerState.{RunnerState}
 use Rattle.version_words.specs.Events.{met_by, IsEnabled}
 use Rattle.machine_states.proofs.Steps.{some_same}
@@ -72,28 +72,28 @@ neither true a a' e e' = e
 neither false a a' e e' = e'
 
 module _ (m : Meaning) (l : Layout) where
-  no_line : (k : EventKind) (free : List ℕ) (q : RunState) (micro : Micro) → is_outer k ≡ true → line_ask m l k free q micro ≡ None
-  no_line kinds.EnterLoad free q micro e = refl
-  no_line kinds.Announce free q micro e = refl
-  no_line kinds.EnterAgain free q micro e = refl
-  no_line kinds.Idle free q micro e = refl
-  no_line kinds.ScanEpoch free q micro e = refl
-  no_line (kinds.ScanOne n) free q micro e = refl
-  no_line kinds.Advance free q micro e = refl
-  no_line kinds.Split free q micro e = refl
-  no_line (kinds.Join worker) free q micro e = refl
-  no_line (kinds.LoadEntry request reply) free q micro e = refl
-  no_line (kinds.Hold thunk d) free q micro e = refl
-  no_line (kinds.ReadPlan thunk) free q micro e = refl
-  no_line kinds.ReadClock free q micro e = refl
-  no_line kinds.ReadReply free q micro e = refl
-  no_line kinds.ReadStamp free q micro e = refl
-  no_line (kinds.Guard d) free q micro e = refl
-  no_line (kinds.LoadGuard n) free q micro e = refl
-  no_line (kinds.BoardLoad word) free q micro e = refl
-  no_line (kinds.BoardTake word link) free q micro e = refl
-  no_line (kinds.BoardGive word slot) free q micro e = refl
-  no_line _ free q micro e = absurd (false≢true e)
+  no_line : (k : EventKind) (free blocks : List ℕ) (q : RunState) (micro : Micro) → is_outer k ≡ true → line_ask m l k free blocks q micro ≡ None
+  no_line kinds.EnterLoad free blocks q micro e = refl
+  no_line kinds.Announce free blocks q micro e = refl
+  no_line kinds.EnterAgain free blocks q micro e = refl
+  no_line kinds.Idle free blocks q micro e = refl
+  no_line kinds.ScanEpoch free blocks q micro e = refl
+  no_line (kinds.ScanOne n) free blocks q micro e = refl
+  no_line kinds.Advance free blocks q micro e = refl
+  no_line kinds.Split free blocks q micro e = refl
+  no_line (kinds.Join worker) free blocks q micro e = refl
+  no_line (kinds.LoadEntry request reply) free blocks q micro e = refl
+  no_line (kinds.Hold thunk d) free blocks q micro e = refl
+  no_line (kinds.ReadPlan thunk) free blocks q micro e = refl
+  no_line kinds.ReadClock free blocks q micro e = refl
+  no_line kinds.ReadReply free blocks q micro e = refl
+  no_line kinds.ReadStamp free blocks q micro e = refl
+  no_line (kinds.Guard d) free blocks q micro e = refl
+  no_line (kinds.LoadGuard n) free blocks q micro e = refl
+  no_line (kinds.BoardLoad word) free blocks q micro e = refl
+  no_line (kinds.BoardTake word link) free blocks q micro e = refl
+  no_line (kinds.BoardGive word slot) free blocks q micro e = refl
+  no_line _ free blocks q micro e = absurd (false≢true e)
 
   no_opening : (k : EventKind) (q : RunState) → is_outer k ≡ true → opening_ask k q ≡ None
   no_opening (kinds.LoadThunk o) q e = absurd (false≢true e)
@@ -102,11 +102,11 @@ module _ (m : Meaning) (l : Layout) where
 
   by_run : (rs : List Request) (r : ℕ) (k : EventKind) (p : PartState) (o : Option RunState) (x : Spot × Access) → is_outer k ≡ true → ask_by m l rs r k p o ≡ Some x → (o ≡ None) × (outside_ask m l rs r k p ≡ Some x)
   by_run rs r k p None x e h = (refl, h)
-  by_run rs r k p (Some q) x e h = absurd (none-some x (sym (neither (is_open_run q) _ _ (no_line k p.nodes.free q (next_of m q) e) (no_opening k q e)) ∙ h))
+  by_run rs r k p (Some q) x e h = absurd (none-some x (sym (neither (is_open_run q) _ _ (no_line k p.nodes.free p.blocks.free q (next_of m q) e) (no_opening k q e)) ∙ h))
 
   -- such an event is enabled in no run alone
   pub outer : (rs : List Request) (r : ℕ) (k : EventKind) (p : PartState) (x : Spot × Access) → is_outer k ≡ true → asks m l rs r k p ≡ Some x → (p.run ≡ None) × (outside_ask m l rs r k p ≡ Some x)
-  outer rs r k p x e h = by_run rs r k p p.run x e (unless_gone (sizes_for m l rs) p.gone (ask_by m l rs r k p p.run) x (unblocked m l rs r k p x h))
+  outer rs r k p x e h = by_run rs r k p p.run x e (unless_gone (sizes_for m l rs) p.gone (ask_by m l rs r k p p.run) x h)
 
 -- where the test holds
 pub tested : (b : Bool) (spot : Spot) (access : Access) (x : Spot × Access) → when b spot access ≡ Some x → (b ≡ true) × ((spot, access) ≡ x)

@@ -137,7 +137,7 @@ module _ {T : Type 0} (mean : T → Meaning) (s : T) (word number : ℕ) (kept :
 
   pub load_kept : Makes (mean s) (kinds.BoardLoad word) found (seen_seat own_table me) (seen_seat new_table me')
       → (lists : KeptState) → lists ≡ with_marks kept.lists (slice_set kept.lists.marks word (mark_loaded found)) → IsKept mean number (record kept { lists = lists }) me'
-  load_kept made lists is = marked_kept mean s (kinds.BoardLoad word) found number kept own_table new_table me me' live made slots was refl lists
+  load_kept made lists is = marked_kept mean s (kinds.BoardLoad word) found number kept own_table new_table me me' live made slots was refl refl lists
       (λ (p : PartState). p) (slice_set kept.lists.marks word (mark_loaded found)) is refl
       (ap (λ (marks : List Mark). slice_set marks word (mark_loaded found)) was.marks ∙ sym (marks_read me.0.part.board word found board_words))
 
@@ -178,7 +178,7 @@ module _ {T : Type 0} (mean : T → Meaning) (s : T) (word number : ℕ) (kept :
     pub take_kept : word < board_words → (lists : KeptState)
         → lists ≡ with_marks (with_nodes kept.lists (free_if (found == link) (slot_drawn nodes slot) nodes)) (slot_tried kept.lists.marks word (found == link))
         → IsKept mean number (record kept { lists = lists }) me'
-    take_kept few lists is = marked_kept mean s (kinds.BoardTake word link) found number kept own_table new_table me me' live made slots was refl lists
+    take_kept few lists is = marked_kept mean s (kinds.BoardTake word link) found number kept own_table new_table me me' live made slots was refl refl lists
         (λ (p : PartState). record p { nodes = free_if (found == link) (slot_drawn p.nodes slot) p.nodes }) (slot_tried kept.lists.marks word (found == link)) is refl
         (tried_marks few (found == link))
 
@@ -195,6 +195,6 @@ module _ {T : Type 0} (mean : T → Meaning) (s : T) (word number : ℕ) (kept :
     pub give_kept : word < board_words → (lists : KeptState)
         → lists ≡ with_marks (with_nodes kept.lists (free_if (found == 0) (slot_given nodes slot) nodes)) (slot_tried kept.lists.marks word (found == 0))
         → IsKept mean number (record kept { lists = lists }) me'
-    give_kept few lists is = marked_kept mean s (kinds.BoardGive word slot) found number kept own_table new_table me me' live made slots was refl lists
+    give_kept few lists is = marked_kept mean s (kinds.BoardGive word slot) found number kept own_table new_table me me' live made slots was refl refl lists
         (λ (p : PartState). record p { nodes = free_if (found == 0) (slot_given p.nodes slot) p.nodes }) (slot_tried kept.lists.marks word (found == 0)) is refl
         (tried_marks few (found == 0))

@@ -1,7 +1,7 @@
 -- In every state that the machine reaches, a runner's lists of node slots have no more entries than there are node slots, and each slot stands
 -- at most once in its free lists.
 use Rattle.std.proofs.Common.{◌≡◌, ℕ, zero, suc, ◌+◌, ◌<◌, ◌≤◌, List, [], ◌∷◌, length, get_or, Bool, true, false, refl, sym, ap, subst, ⊎_elim, arith, Some, slice_get}
-use Rattle.std.specs.Prelude.{◌||◌, ◌==◌, All, cond}
+use Rattle.std.specs.Prelude.{◌||◌, ◌==◌, ◌&&◌, nat_lt, All, cond}
 use Rattle.std.proofs.lemmas.Bool.{cases_lt}
 use Rattle.machine_states.specs.epoch_core.specs.small_lemmas.proofs.Numbers.{one_at_most}
 use Rattle.machine_states.specs.map_history.specs.declared.op.Request.{Request}
@@ -10,7 +10,7 @@ use Rattle.machine_states.specs.table_words.specs.declared.layout.Layout.{Layout
 use Rattle.machine_states.specs.table_words.specs.Limits.{IsWithinLimits}
 use Rattle.machine_states.specs.table_words.specs.declared.spot.Spot.{Spot}
 use Rattle.machine_states.specs.table_words.specs.declared.access.Access.{Access}
-use Rattle.machine_states.specs.table_words.specs.Places.{slot_count, descriptor_count}
+use Rattle.machine_states.specs.table_words.specs.Places.{slot_count, descriptor_count, block_count}
 use Rattle.machine_states.specs.structure_laws.specs.Meaning.{Meaning}
 use Rattle.machine_states.specs.structure_laws.specs.Laws.{Laws}
 use Rattle.machine_states.specs.runner_parts.specs.declared.entries.Retired.{Retired}
@@ -26,6 +26,8 @@ use Rattle.machine_invariant.specs.machine_blocks.specs.machine_guards.specs.mac
 use Rattle.machine_invariant.specs.machine_blocks.specs.machine_guards.specs.machine_agreement.specs.machine_epochs.specs.Firsts.{owner_of}
 use Rattle.machine_invariant.specs.machine_blocks.specs.machine_guards.specs.machine_agreement.specs.machine_epochs.proofs.Places.{has_times}
 use Rattle.machine_invariant.specs.machine_blocks.specs.machine_guards.specs.machine_agreement.specs.machine_epochs.proofs.Reached.{descriptors_after}
+use Rattle.machine_invariant.specs.machine_blocks.specs.machine_guards.specs.Stands.{block_times}
+use Rattle.machine_invariant.specs.machine_blocks.specs.machine_guards.specs.State.{block_owner}
 use Rattle.machine_invariant.specs.Slots.{times_among}
 use Rattle.machine_invariant.specs.After.{AreAllowed}
 use Rattle.machine_invariant.proofs.After.{whole_after, short_after}
@@ -101,3 +103,10 @@ module _ (m : Meaning) (l : Layout) (rs : List Request) (r : ℕ) (kind : EventK
       let stand = descriptors_after m l rs shown.was_reached.events shown.before shown.was_reached.after in
       let once = subst (λ (y : PartState). times_with y d ≡ cond (owner_of l.sections l.runners d == r) 1 0) here (stand.once r d few) in
       let most = one_at_most (owner_of l.sections l.runners d == r) in omega (arith, once, most)
+
+  -- and each block
+  pub block_once : Laws m → IsWithinLimits l → AreAllowed rs → (b : ℕ) → times b old.blocks.free ≤ 1
+  block_once laws limits requests b =
+      let stand = (whole_after m laws l rs shown.was_reached.events shown.before limits requests shown.was_reached.after).sound.logs.guards in
+      let once = subst (λ (y : PartState). block_times y b ≡ cond (nat_lt b (block_count l) && block_owner l b == r) 1 0) here (stand.blocks r b) in
+      let most = one_at_most (nat_lt b (block_count l) && block_owner l b == r) in omega (arith, once, most)

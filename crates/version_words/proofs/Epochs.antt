@@ -18,7 +18,7 @@ use Rattle.machine_states.specs.runner_steps.specs.Sections.{is_open_run, next_o
 use Rattle.machine_states.specs.runner_steps.specs.AfterInRun.{ended_more}
 use Rattle.machine_invariant.specs.machine_blocks.specs.machine_guards.specs.machine_agreement.specs.machine_epochs.proofs.RunPlaces.{no_retire_next, open_run}
 use Rattle.machine_states.proofs.Steps.{some_same}
-use Rattle.machine_states.proofs.Blockless.{line_ask}
+use Rattle.machine_states.specs.runner_steps.specs.Asks.{line_ask}
 use Rattle.version_words.specs.Place.{HasEpoch}
 
 -- the load of the epoch for a retirement
@@ -26,20 +26,20 @@ abbrev pub is_epoch : EventKind → Bool
 is_epoch kinds.EpochForRetire = true
 is_epoch _ = false
 
-module _ (m : Meaning) (l : Layout) (free : List ℕ) (q : RunState) where
+module _ (m : Meaning) (l : Layout) (free blocks : List ℕ) (q : RunState) where
   -- where the epoch is to be loaded no other kind of step is asked for
-  epoch_asks : (k : EventKind) → is_epoch k ≡ false → (slot log : ℕ) → line_ask m l k free q (micros.EpochForRetire slot log) ≡ None
+  epoch_asks : (k : EventKind) → is_epoch k ≡ false → (slot log : ℕ) → line_ask m l k free blocks q (micros.EpochForRetire slot log) ≡ None
   epoch_asks kinds.EpochForRetire n slot log = absurd (true≢false n)
   epoch_asks (kinds.LoadCell None) n slot log = refl
   epoch_asks (kinds.LoadCell (Some place)) n slot log = refl
   epoch_asks _ n slot log = refl
 
-  module _ (k : EventKind) (x : Spot × Access) (other : is_epoch k ≡ false) (asked : line_ask m l k free q (next_of m q) ≡ Some x) where
+  module _ (k : EventKind) (x : Spot × Access) (other : is_epoch k ≡ false) (asked : line_ask m l k free blocks q (next_of m q) ≡ Some x) where
     no_load : (slot log : ℕ) → micro_at (line_of m q) q.at ≡ micros.EpochForRetire slot log → ⊥
     no_load slot log e =
         let t = thunk_of q.opened in
         let there : next_of m q ≡ micros.EpochForRetire slot log = ap (λ (micro : Micro). cond (is_event micro) micro (slice_index_or (ending (line_of m q) q.at t.lock t.word) q.ended micros.End)) e in
-        none-some x (sym (ap (line_ask m l k free q) there ∙ epoch_asks k other slot log) ∙ asked)
+        none-some x (sym (ap (line_ask m l k free blocks q) there ∙ epoch_asks k other slot log) ∙ asked)
 
     module _ (ready : is_open_run q ≡ true) (epoch : ℕ) (q' : RunState) (trail : List ℕ) (same : q'.opened ≡ q.opened)
         (rests : q'.at ≡ settled (setting_of l q.descriptor) trail (line_of m q) (q.at + 1)) where

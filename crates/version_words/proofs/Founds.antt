@@ -1,6 +1,6 @@
 -- What a step found, where every state that the machine reaches tells it.
 use Rattle.std.proofs.Common.{◌≡◌, ◌≢◌, ℕ, suc, ◌+◌, ◌<◌, ◌≤◌, ◌^◌, ◌⊎◌, ⊎_elim, List, length, Bool, eq-eqb, ne_eqb, sym, ap, subst, ◌∙◌, arith, Some, if◌then◌else◌}
-use Rattle.std.specs.Prelude.{◌==◌, ◌/◌, ◌%◌, nat_lt, false, not, cond}
+use Rattle.std.specs.Prelude.{◌==◌, false, not, cond}
 use mathlib.Core.Logic.{dite}
 use native.Mathlib.Decide.{ℕ_discrete}
 use Rattle.machine_states.specs.map_history.specs.declared.op.Request.{Request}
@@ -11,14 +11,13 @@ use Rattle.machine_states.specs.table_words.specs.declared.layout.Layout.{Layout
 use Rattle.machine_states.specs.table_words.specs.declared.spot.Spot.{Spot}
 use Rattle.machine_states.specs.table_words.specs.declared.spot.Spot.TheVariants as spots
 use Rattle.machine_states.specs.table_words.specs.Limits.{IsWithinLimits}
-use Rattle.machine_states.specs.table_words.specs.Places.{part_words, slot_count}
+use Rattle.machine_states.specs.table_words.specs.Places.{slot_count, block_count}
 use Rattle.machine_states.specs.table_words.specs.Seen.{seen}
 use Rattle.machine_states.specs.structure_laws.specs.Meaning.{Meaning}
 use Rattle.machine_states.specs.structure_laws.specs.Laws.{Laws}
 use Rattle.machine_states.specs.runner_parts.specs.State.{RunState, PartState}
 use Rattle.machine_states.specs.runner_steps.specs.Sections.{line_of, commits_to, is_beyond}
-use Rattle.machine_states.specs.runner_parts.specs.block_words.specs.Blocks.{part_spot, log_spot}
-use Rattle.machine_states.specs.epoch_core.specs.small_lemmas.proofs.Numbers.{not_less_tested}
+use Rattle.machine_states.specs.runner_parts.specs.block_words.specs.Blocks.{link_spot, log_spot}
 use Rattle.machine_states.specs.runner_steps.specs.Asks.{sizes_for}
 use Rattle.machine_states.specs.Sight.{sight, part_or_first}
 use Rattle.machine_invariant.specs.After.{AreAllowed}
@@ -43,23 +42,28 @@ module _ (m : Meaning) (laws : Laws m) (l : Layout) (rs : List Request) (r : ℕ
   word_is : (at : Spot) → spot ≡ at → seen (sizes_for m l rs) shown.world.words at ≡ number
   word_is at is = ap (seen (sizes_for m l rs) shown.world.words) (sym is) ∙ shown.word
 
-  -- a word of the first part of its log stands in the section's descriptor
-  in_descriptor : (k : ℕ) → k < 64 → (is_beyond q (Some k) ≡ false) × (log_spot q.descriptor q.links k ≡ spots.LogWord q.descriptor k)
-  in_descriptor k low =
-      let part : k / part_words ≡ 0 = omega (arith, low) in
-      let place : k % part_words ≡ k = omega (arith, low) in
-      (ap (nat_lt (length q.links)) part ∙ not_less_tested (length q.links) 0 (omega arith), (λ i. part_spot q.descriptor q.links (part i) (place i)))
-
-  pub made_word : (i k : ℕ) → length q.opened ≡ 13 → micro_at (line_of m q) i ≡ micros.MakeCommit k → spot ≡ spots.LogWord q.descriptor k → number < 2 ^ 32
-  made_word i k loaded here at =
-      let there = in_descriptor k (says.few r i k q run_seen loaded (ap commits_to here)) in
-      let low = subst (λ (n : ℕ). n ≤ slot_count l m.fixed_slots) (word_is (log_spot q.descriptor q.links k) (at ∙ sym there.1)) (says.made r i k q run_seen loaded here there.0) in
+  -- of a word of its log whose part is linked
+  pub made_word : (i k : ℕ) → length q.opened ≡ 13 → micro_at (line_of m q) i ≡ micros.MakeCommit k → is_beyond q (Some k) ≡ false → spot ≡ log_spot q.descriptor q.links k → number < 2 ^ 32
+  made_word i k loaded here linked at =
+      let low = subst (λ (n : ℕ). n ≤ slot_count l m.fixed_slots) (word_is (log_spot q.descriptor q.links k) at) (says.made r i k q run_seen loaded here linked) in
       let few = few_slots m laws l limits in omega (arith, low, few)
 
-  pub retired_word : (i slot k : ℕ) → length q.opened ≡ 13 → micro_at (line_of m q) i ≡ micros.RetireCommit slot k → spot ≡ spots.LogWord q.descriptor k → (number ≡ 0) ⊎ (number ≡ suc slot)
-  retired_word i slot k loaded here at =
-      let there = in_descriptor k (says.few r i k q run_seen loaded (ap commits_to here)) in
-      subst (λ (n : ℕ). (n ≡ 0) ⊎ (n ≡ suc slot)) (word_is (log_spot q.descriptor q.links k) (at ∙ sym there.1)) (says.retired r i slot k q run_seen loaded here there.0)
+  pub retired_word : (i slot k : ℕ) → length q.opened ≡ 13 → micro_at (line_of m q) i ≡ micros.RetireCommit slot k → is_beyond q (Some k) ≡ false → spot ≡ log_spot q.descriptor q.links k
+      → (number ≡ 0) ⊎ (number ≡ suc slot)
+  retired_word i slot k loaded here linked at =
+      subst (λ (n : ℕ). (n ≡ 0) ⊎ (n ≡ suc slot)) (word_is (log_spot q.descriptor q.links k) at) (says.retired r i slot k q run_seen loaded here linked)
+
+  -- the link behind the last part of its log that the run knows
+  pub link_word : spot ≡ link_spot q.descriptor q.links (length q.links) → number ≤ block_count l
+  link_word at = subst (λ (n : ℕ). n ≤ block_count l) (word_is (link_spot q.descriptor q.links (length q.links)) at) (says.linked r q run_seen)
+
+  -- each commit of its line goes to one of the first 64 words
+  pub word_few : (i k : ℕ) → length q.opened ≡ 13 → commits_to (micro_at (line_of m q) i) ≡ Some k → k < 64
+  word_few i k loaded here = says.few r i k q run_seen loaded here
+
+  -- and the one before which it stands to the word behind those on which it has agreed
+  pub word_next : (k : ℕ) → length q.opened ≡ 13 → commits_to (micro_at (line_of m q) q.at) ≡ Some k → k ≡ length q.trail
+  word_next k loaded here = says.next r k q run_seen loaded here
 
   pub done_word : spot ≡ spots.DoneWord q.descriptor → number ≤ 1
   done_word at = subst (λ (n : ℕ). n ≤ 1) (word_is (spots.DoneWord q.descriptor) at) (says.done r q run_seen)

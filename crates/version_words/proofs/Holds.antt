@@ -20,22 +20,24 @@ use Rattle.machine_states.specs.runner_parts.specs.declared.event.EventKind.TheV
 use Rattle.machine_states.specs.runner_parts.specs.State.{PartState}
 use Rattle.machine_states.specs.runner_parts.specs.Tests.{has, is_walking, is_open, is_prepared, has_pair, is_between, is_some_of}
 use Rattle.machine_states.specs.epoch_core.specs.Lists.{times}
-use Rattle.machine_states.specs.runner_parts.specs.Lists.{descriptor_taken, published_seen, cell_read}
 use Rattle.machine_states.specs.runner_steps.specs.Outside.{hold_ask, is_ready, is_publishable, is_due}
-use Rattle.machine_states.specs.runner_steps.specs.AfterOutside.{hold_after, published_by}
+use Rattle.machine_states.specs.runner_steps.specs.AfterOutside.{hold_after}
+use Rattle.machine_states.specs.runner_steps.specs.After.{after}
 use Rattle.version_words.specs.declared.view.View.{View}
 use Rattle.runner_block.specs.declared.block.Block.{Block}
-use Rattle.runner_block.specs.Kept.{KeptState, held_in, with_part}
+use Rattle.runner_block.specs.Kept.{KeptState, held_in, with_part, with_blocks, given_back_if}
 use Rattle.version_words.specs.RunnerState.{RunnerState, told_part, told_published}
 use Rattle.machine_states.specs.runner_parts.specs.declared.entries.Published.{Published}
 use Rattle.version_words.specs.TableState.{TableState}
 use Rattle.version_words.specs.Naming.{hold_of}
-use Rattle.version_words.specs.Kept.{IsKept}
+use Rattle.version_words.specs.Kept.{KeepsBlocks, IsKept}
+use Rattle.version_words.proofs.BlocksKept.{blocks_to}
 use Rattle.version_words.specs.Events.{met_by, IsEnabled, IsNamed, Makes, step_at, announcing, seen_seat}
 use Rattle.version_words.proofs.Asked.{outer, tested}
 use Rattle.version_words.proofs.Bounds.{descriptor_once}
 use Rattle.version_words.proofs.Inside.{both_true, few_descriptors}
-use Rattle.version_words.proofs.Keeps.{lists_kept}
+use Rattle.version_words.proofs.BlockSteps.{part_won, part_lost, held}
+use Rattle.version_words.proofs.Keeps.{part_is, resting, outer_kept}
 
 -- what an enabled exchange that publishes asks
 pub record IsHold (l : Layout) (t : Thunk) (d : ℕ) (p : PartState) (x : Spot × Access) : Type 0 where
@@ -101,18 +103,6 @@ hold_named m s r t d free held few same is enabled = record {
   plain = ap (Rattle.version_words.specs.Naming.is_plain r.layout r.part) (hold_name t d held few is);
 }
 
--- the part after an exchange that won, and after one that lost
-abbrev part_won : Thunk → ℕ → ℕ → PartState → PartState
-part_won t d found p = record p {
-  published = Some (published_by t d p);
-  descriptors = descriptor_taken p.descriptors d;
-  guards = published_seen p.guards d;
-  reads = cell_read p.reads t.lock found;
-}
-
-abbrev part_lost : Thunk → ℕ → PartState → PartState
-part_lost t found p = record p { reads = cell_read p.reads t.lock found }
-
 hold_won : (t : Thunk) (d found : ℕ) (p : PartState) → found == t.word ≡ true → hold_after t d p found ≡ part_won t d found p
 hold_won t d found p e = ap (λ (b : Bool). if b then part_won t d found p else part_lost t found p) e
 
@@ -134,8 +124,12 @@ module _ {T : Type 0} (mean : T → Meaning) (s : T) (t : Thunk) (d found number
       (descriptor_once (mean s) me'.0.layout me'.0.requests me'.0.number (kinds.Hold t d) me.0.part me'.0.part made.met found made.shown d
       (subst (λ (l : Layout). d < descriptor_count l) (sym (ap (λ (r : RunnerState T). r.layout) made.made)) few))
 
-  pub hold_kept : (b : Bool) (lists : KeptState) → b ≡ found == t.word → lists ≡ with_part kept.lists (held_in kept.lists.part d b) → IsKept mean number (record kept { lists = lists }) me'
-  hold_kept b lists won is = lists_kept mean s (kinds.Hold t d) found number kept old_table new_table me me' live made slots was refl lists (λ p. held_in p d b) is (told_held b (sym won))
+  pub hold_kept : (b : Bool) (lists : KeptState) → b ≡ found == t.word → lists ≡ with_blocks (with_part kept.lists (held_in kept.lists.part d b)) (given_back_if b d kept.lists.blocks) → IsKept mean number (record kept { lists = lists }) me'
+  hold_kept b lists won is = outer_kept mean s (kinds.Hold t d) found number kept old_table new_table me me' live made slots was refl lists (ap (λ l. l.room) is)
+      (ap (λ l. l.part) is ∙ (ap (λ p. held_in p d b) was.lists ∙ told_held b (sym won))) (ap (λ l. l.marks) is ∙ was.marks)
+      (blocks_to (sym (ap (λ l. l.blocks) is)) (sym (ap (λ l. l.named) is)) (subst (KeepsBlocks (with_blocks kept.lists (given_back_if b d kept.lists.blocks))) (sym (part_is mean s (kinds.Hold t d) found number kept old_table new_table me me' live made slots was))
+      (subst (λ (w : Bool). KeepsBlocks (with_blocks kept.lists (given_back_if w d kept.lists.blocks)) (after (mean s) me.0.layout me.0.number (kinds.Hold t d) made.met.0 made.met.1 me.0.part found)) (sym won)
+      (held (mean s) me.0.layout me.0.number made.met.0 made.met.1 me.0.part found kept.lists was.blocks (resting mean s (kinds.Hold t d) found number kept old_table new_table me me' live made slots was refl) t d))))
 
 -- the descriptor may be published
 module _ {T : Type 0} (mean : T → Meaning) (s : T) (t : Thunk) (d number : ℕ) (kept : Block) (own_table : TableId) (me : Me Thunk (View T)) (enabled : IsEnabled (mean s) (kinds.Hold t d) (seen_seat own_table me)) (was : IsKept mean number kept me) where

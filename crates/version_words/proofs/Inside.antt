@@ -1,5 +1,5 @@
 -- A runner's code keeps the place of its run.
-use Rattle.std.proofs.Common.{◌≡◌, ℕ, ◌-◌, ◌*◌, ◌+◌, ◌<◌, List, [], ◌∷◌, ◌++◌, length, Bool, true, false, refl, sym, ap, subst, ◌∙◌, arith, Option, Some, None, if◌then◌else◌, length-append}
+use Rattle.std.proofs.Common.{◌≡◌, ℕ, ◌-◌, ◌*◌, ◌+◌, ◌<◌, List, [], ◌∷◌, ◌++◌, length, Bool, true, false, refl, sym, ap, subst, ◌∙◌, arith, Option, Some, None, ⊎_elim, if◌then◌else◌, length-append}
 use Rattle.std.specs.Prelude.{◌%◌, ◌^◌, ◌&&◌, ◌==◌, suc, zero, nat_lt, slice_index, slice_index_or, cond, take}
 use Rattle.std.specs.Option.{is_some}
 use Rattle.std.specs.List.{list_all}
@@ -9,7 +9,7 @@ use Rattle.machine_states.specs.map_history.specs.declared.op.Request.{Request}
 use Rattle.machine_states.specs.body_terms.specs.declared.thunk.Thunk.{Thunk}
 use Rattle.machine_states.specs.body_terms.specs.declared.micro.Micro.{Micro}
 use Rattle.machine_states.specs.body_terms.specs.declared.micro.Micro.TheVariants as micros
-use Rattle.machine_states.specs.body_terms.specs.Word.{version_of, held_word, next_word}
+use Rattle.machine_states.specs.body_terms.specs.Word.{value_of, version_of, held_word, next_word}
 use Rattle.machine_states.specs.body_terms.specs.Line.{is_end, is_event, micro_at, release_of, releases, ending}
 use Rattle.machine_states.specs.body_terms.specs.Run.{written_once}
 use Rattle.atomic_table.specs.Table.{Me}
@@ -19,7 +19,7 @@ use Rattle.machine_states.specs.table_words.specs.declared.spot.Spot.{Spot}
 use Rattle.machine_states.specs.table_words.specs.declared.spot.Spot.TheVariants as spots
 use Rattle.machine_states.specs.table_words.specs.declared.access.Access.{Access}
 use Rattle.machine_states.specs.table_words.specs.declared.access.Access.TheVariants.{Exchanges}
-use Rattle.machine_states.specs.table_words.specs.Places.{address, cells_at, descriptor_count, Fits}
+use Rattle.machine_states.specs.table_words.specs.Places.{address, cells_at, descriptor_count}
 use Rattle.machine_states.specs.table_words.specs.Limits.{IsWithinLimits}
 use Rattle.std.proofs.Math.Nat.{mul-le-mul_left}
 use Rattle.std.proofs.lemmas.Bool.Decides.{nat_tests}
@@ -28,33 +28,36 @@ use Rattle.std.proofs.lemmas.Bool.{true≢false}
 use Rattle.machine_states.specs.structure_laws.specs.Meaning.{Meaning}
 use Rattle.machine_states.specs.runner_parts.specs.declared.event.EventKind.{EventKind}
 use Rattle.machine_states.specs.runner_parts.specs.declared.event.EventKind.TheVariants as kinds
-use Rattle.machine_states.specs.runner_parts.specs.State.{RunState, PartState, NodesState}
+use Rattle.machine_states.specs.runner_parts.specs.State.{RunState, PartState, NodesState, BlocksState}
 use Rattle.machine_states.specs.runner_steps.specs.Sections.{line_limit, is_open_run, next_of, thunk_of, line_of}
 use Rattle.machine_states.specs.runner_parts.specs.declared.entries.Published.{Published}
 use Rattle.machine_states.specs.runner_parts.specs.Tests.{has}
 use Rattle.machine_states.specs.runner_steps.specs.InRun.{stamp_after, last_clock, can_raise, can_hold, nested_hold_ask, release_ask}
 use Rattle.machine_states.specs.runner_steps.specs.Asks.{asks, sizes_for, opening_ask}
 use Rattle.machine_states.specs.runner_steps.specs.AfterInRun.{opened_more, kept_unless, retired_if, goes_on, agrees, with_run, ended_more, run_over, place_of, reply_word_of}
-use Rattle.machine_states.specs.runner_parts.specs.Lists.{cell_read, learned, descriptor_retired}
+use Rattle.machine_states.specs.runner_parts.specs.Lists.{cell_read, learned, descriptor_retired, blocks_seen, blocks_given_back}
 use Rattle.machine_states.specs.runner_steps.specs.After.{line_after, after_by, stepped}
-use Rattle.machine_states.proofs.Blockless.{ask_by, outside_ask, line_ask, unblocked}
+use Rattle.machine_states.specs.runner_steps.specs.Asks.{ask_by, outside_ask, line_ask}
 use Rattle.version_words.specs.declared.view.View.{View}
 use Rattle.runner_block.specs.declared.place.RunPlace.{RunPlace}
 use Rattle.runner_block.specs.declared.block.Block.{Block}
 use Rattle.version_words.specs.Naming.{load_of}
-use Rattle.runner_block.specs.Kept.{KeptState, published_as, over_in}
-use Rattle.runner_block.specs.Blocks.{lists_released, block_released}
+use Rattle.runner_block.specs.Kept.{KeptState, with_blocks, published_as, over_in}
+use Rattle.runner_block.specs.Links.{BlocksKept, names, blocks_are, links_over}
+use Rattle.runner_block.specs.Blocks.{lists_released, block_released, block_saw}
 use Rattle.version_words.specs.RunnerState.{RunnerState, told_part, told_published}
 use Rattle.version_words.specs.TableState.{TableState, IsOf}
-use Rattle.version_words.specs.Place.{IsPlaced, HasEpoch, is_ending, next_log}
-use Rattle.version_words.specs.Kept.{IsKept}
+use Rattle.version_words.specs.Place.{IsPlaced, HasEpoch, is_ending}
+use Rattle.version_words.specs.Kept.{KeepsBlocks, IsUnseen, IsSeen, IsKept}
 use Rattle.version_words.specs.Events.{met_by, Makes, seen_seat}
 use Rattle.version_words.proofs.Splits.{learns}
-use Rattle.version_words.proofs.Told.{told_read, leaves_board}
+use Rattle.version_words.proofs.Told.{told_read}
+use Rattle.version_words.proofs.BlockSteps.{released, seen, seen_none, seen_unnamed, seen_named_so}
+use Rattle.version_words.proofs.BlocksKept.{blocks_to}
 use Rattle.version_words.proofs.Asked.{unless_gone, tested}
-use Rattle.version_words.proofs.Keeps.{KeepsPart, beside, no_epoch, was_part, then_kept}
+use Rattle.version_words.proofs.Keeps.{KeepsPart, beside, leaves_all, no_epoch, was_part, part_is, then_kept, then_kept_with}
 use Rattle.version_words.proofs.Epochs.{is_epoch, goes_epoch, ended_epoch, epoch_if}
-use Rattle.machine_states.proofs.Steps.{some_same, asked_fits}
+use Rattle.machine_states.proofs.Steps.{some_same}
 
 -- the kinds of step that are made in a run alone, once it has loaded its opening, and that leave the lists as they are
 -- and the log; but the release with which the run is over retires the own section's descriptor
@@ -120,12 +123,22 @@ commit_inner kinds.Commit e = refl
 commit_inner kinds.OutcomeCommit e = refl
 commit_inner _ e = absurd (false_true e)
 
-inner_left : (k : EventKind) → is_inner k ≡ true → leaves_board k ≡ true
-inner_left kinds.Idle e = absurd (false_true e)
-inner_left (kinds.BoardLoad word) e = absurd (false_true e)
-inner_left (kinds.BoardTake word link) e = absurd (false_true e)
-inner_left (kinds.BoardGive word slot) e = absurd (false_true e)
-inner_left _ e = refl
+inner_left : (k : EventKind) → is_inner k ≡ true → is_release k ≡ false → leaves_all k ≡ true
+inner_left kinds.Commit e n = refl
+inner_left kinds.OutcomeCommit e n = refl
+inner_left (kinds.LoadCell None) e n = refl
+inner_left (kinds.LoadCell (Some place)) e n = absurd (false_true e)
+inner_left kinds.ExchangeCell e n = refl
+inner_left kinds.SetDone e n = refl
+inner_left kinds.Release e n = absurd (true≢false n)
+inner_left kinds.ClockLoad e n = refl
+inner_left kinds.StampExchange e n = refl
+inner_left kinds.ClockRaise e n = refl
+inner_left kinds.ReplyExchange e n = refl
+inner_left kinds.NestedLoad e n = refl
+inner_left kinds.NestedHold e n = refl
+inner_left kinds.OutcomeLoad e n = refl
+inner_left _ e n = absurd (false_true e)
 
 -- a run that has loaded its opening
 pub record HasOpenRun (p : PartState) : Type 0 where
@@ -133,10 +146,10 @@ pub record HasOpenRun (p : PartState) : Type 0 where
   pub there : p.run ≡ Some run
   pub ready : is_open_run run ≡ true
 
-open_by : (m : Meaning) (l : Layout) (k : EventKind) (free : List ℕ) (q : RunState) (x : Spot × Access) (b : Bool) → opening_ask k q ≡ None
-    → (if b then line_ask m l k free q (next_of m q) else opening_ask k q) ≡ Some x → b ≡ true
-open_by m l k free q x true none e = refl
-open_by m l k free q x false none e = absurd (none-some x (sym none ∙ e))
+open_by : (m : Meaning) (l : Layout) (k : EventKind) (free blocks : List ℕ) (q : RunState) (x : Spot × Access) (b : Bool) → opening_ask k q ≡ None
+    → (if b then line_ask m l k free blocks q (next_of m q) else opening_ask k q) ≡ Some x → b ≡ true
+open_by m l k free blocks q x true none e = refl
+open_by m l k free blocks q x false none e = absurd (none-some x (sym none ∙ e))
 
 no_opening : (k : EventKind) (q : RunState) → is_inner k ≡ true → opening_ask k q ≡ None
 no_opening (kinds.LoadThunk o) q e = absurd (false_true e)
@@ -163,10 +176,10 @@ not_outside m l rs r _ p e = absurd (false_true e)
 by_run : (m : Meaning) (l : Layout) (rs : List Request) (r : ℕ) (k : EventKind) (p : PartState) (o : Option RunState) (x : Spot × Access) → is_inner k ≡ true → ask_by m l rs r k p o ≡ Some x
     → (q : RunState) × (o ≡ Some q) × (is_open_run q ≡ true)
 by_run m l rs r k p None x e h = absurd (none-some x (sym (not_outside m l rs r k p e) ∙ h))
-by_run m l rs r k p (Some q) x e h = (q, refl, open_by m l k p.nodes.free q x (is_open_run q) (no_opening k q e) h)
+by_run m l rs r k p (Some q) x e h = (q, refl, open_by m l k p.nodes.free p.blocks.free q x (is_open_run q) (no_opening k q e) h)
 
 pub opened_run : (m : Meaning) (l : Layout) (rs : List Request) (r : ℕ) (k : EventKind) (p : PartState) (x : Spot × Access) → is_inner k ≡ true → asks m l rs r k p ≡ Some x → HasOpenRun p
-opened_run m l rs r k p x e h = let b = by_run m l rs r k p p.run x e (unless_gone (sizes_for m l rs) p.gone (ask_by m l rs r k p p.run) x (unblocked m l rs r k p x h)) in record { run = b.0; there = b.1; ready = b.2 }
+opened_run m l rs r k p x e h = let b = by_run m l rs r k p p.run x e (unless_gone (sizes_for m l rs) p.gone (ask_by m l rs r k p p.run) x h) in record { run = b.0; there = b.1; ready = b.2 }
 
 pub step_is : (m : Meaning) (l : Layout) (k : EventKind) (p : PartState) (found : ℕ) (h : HasOpenRun p) → stepped m l k p found ≡ line_after m l k p h.run (next_of m h.run) found
 step_is m l k p found h = ap (λ (o : Option RunState). after_by m l k p o found) h.there ∙ ap (λ (b : Bool). if b then line_after m l k p h.run (next_of m h.run) found else opened_more p h.run found) h.ready
@@ -364,34 +377,34 @@ pub opened_all : (q : RunState) → is_open_run q ≡ true → length q.opened �
 opened_all q e = let a = (both_true (length q.opened == 13) (nat_lt q.at line_limit && nat_lt q.ended line_limit) e).0 in grind (arith, nat_tests)
 
 -- at the end of a run its line asks for nothing but the done word and releases
-module _ (m : Meaning) (l : Layout) (free : List ℕ) (q : RunState) where
-  done_asks : (k : EventKind) → is_ender k ≡ false → line_ask m l k free q micros.SetDone ≡ None
+module _ (m : Meaning) (l : Layout) (free blocks : List ℕ) (q : RunState) where
+  done_asks : (k : EventKind) → is_ender k ≡ false → line_ask m l k free blocks q micros.SetDone ≡ None
   done_asks (kinds.LoadCell None) n = refl
   done_asks (kinds.LoadCell (Some place)) n = refl
   done_asks kinds.SetDone n = absurd (true≢false n)
   done_asks kinds.Release n = absurd (true≢false n)
   done_asks _ n = refl
 
-  release_asks : (k : EventKind) (place word : ℕ) → is_ender k ≡ false → line_ask m l k free q (micros.Release place word) ≡ None
+  release_asks : (k : EventKind) (place word : ℕ) → is_ender k ≡ false → line_ask m l k free blocks q (micros.Release place word) ≡ None
   release_asks (kinds.LoadCell None) place word n = refl
   release_asks (kinds.LoadCell (Some p)) place word n = refl
   release_asks kinds.SetDone place word n = absurd (true≢false n)
   release_asks kinds.Release place word n = absurd (true≢false n)
   release_asks _ place word n = refl
 
-  end_asks : (k : EventKind) → line_ask m l k free q micros.End ≡ None
+  end_asks : (k : EventKind) → line_ask m l k free blocks q micros.End ≡ None
   end_asks (kinds.LoadCell None) = refl
   end_asks (kinds.LoadCell (Some p)) = refl
   end_asks _ = refl
 
-  ending_asks : (k : EventKind) → is_ender k ≡ false → (micro : Micro) → is_ending micro ≡ true → line_ask m l k free q micro ≡ None
+  ending_asks : (k : EventKind) → is_ender k ≡ false → (micro : Micro) → is_ending micro ≡ true → line_ask m l k free blocks q micro ≡ None
   ending_asks k n micros.SetDone e = done_asks k n
   ending_asks k n (micros.Release place word) e = release_asks k place word n
   ending_asks k n micros.End e = end_asks k
   ending_asks k n _ e = absurd (false_true e)
 
   -- and where it asks for these it is at its end
-  ender_ends : (k : EventKind) → is_ender k ≡ true → (micro : Micro) (x : Spot × Access) → line_ask m l k free q micro ≡ Some x → is_ending micro ≡ true
+  ender_ends : (k : EventKind) → is_ender k ≡ true → (micro : Micro) (x : Spot × Access) → line_ask m l k free blocks q micro ≡ Some x → is_ending micro ≡ true
   ender_ends kinds.SetDone e micros.SetDone x h = refl
   ender_ends kinds.SetDone e _ x h = absurd (none-some x h)
   ender_ends kinds.Release e (micros.Release place word) x h = refl
@@ -445,10 +458,10 @@ ends_run m l p q micro found _ e is = absurd (false_true e)
 
 -- a run that goes on isn't at its end
 pub goes_inside : (m : Meaning) (l : Layout) (kept : Block) (p : PartState) (q : RunState) (k : EventKind) (x : Spot × Access) → KeepsPart m kept p → p.run ≡ Some q → is_open_run q ≡ true → is_ender k ≡ false
-    → line_ask m l k p.nodes.free q (next_of m q) ≡ Some x → kept.place.inside ≡ false → ⊥
-goes_inside m l kept p q k x was there ready n asked closed = none-some x (sym (ending_asks m l p.nodes.free q k n (next_of m q) (was.run.ending q there ready closed)) ∙ asked)
+    → line_ask m l k p.nodes.free p.blocks.free q (next_of m q) ≡ Some x → kept.place.inside ≡ false → ⊥
+goes_inside m l kept p q k x was there ready n asked closed = none-some x (sym (ending_asks m l p.nodes.free p.blocks.free q k n (next_of m q) (was.run.ending q there ready closed)) ∙ asked)
 
-module _ (m : Meaning) (l : Layout) (k : EventKind) (kept : Block) (p : PartState) (found : ℕ) (h : HasOpenRun p) (x : Spot × Access) (asked : line_ask m l k p.nodes.free h.run (next_of m h.run) ≡ Some x) (was : KeepsPart m kept p) where
+module _ (m : Meaning) (l : Layout) (k : EventKind) (kept : Block) (p : PartState) (found : ℕ) (h : HasOpenRun p) (x : Spot × Access) (asked : line_ask m l k p.nodes.free p.blocks.free h.run (next_of m h.run) ≡ Some x) (was : KeepsPart m kept p) where
   abbrev q : RunState
   q = h.run
 
@@ -483,7 +496,7 @@ module _ (m : Meaning) (l : Layout) (k : EventKind) (kept : Block) (p : PartStat
   stays_part quiet n =
       let same = quiet_lists m l p q (next_of m q) found k (quiet_inner k quiet) (no_release k n) in
       goes_part kept refl n (was.lists ∙ sym same) (stays_place m l p q h.there (next_of m q) found kept.place placed k quiet n) (stays_open m l p q h.there (next_of m q) found kept.place placed k quiet n) same
-      (quiet_epoch m l p q h.there (next_of m q) found kept.place.epoch was_epoch (λ word. goes_epoch m l p.nodes.free q k x (quiet_other k quiet) asked h.ready kept.place.epoch (goes_on m l q word) q.trail refl refl) k quiet n)
+      (quiet_epoch m l p q h.there (next_of m q) found kept.place.epoch was_epoch (λ word. goes_epoch m l p.nodes.free p.blocks.free q k x (quiet_other k quiet) asked h.ready kept.place.epoch (goes_on m l q word) q.trail refl refl) k quiet n)
 
   -- after a commit of a loaded word
   commit_part : is_commit k ≡ true → KeepsPart m (record kept { place = record (kept.place) { agreed = kept.place.agreed + 1 } }) p'
@@ -491,7 +504,7 @@ module _ (m : Meaning) (l : Layout) (k : EventKind) (kept : Block) (p : PartStat
       let same = quiet_lists m l p q (next_of m q) found k (commit_inner k commits) (no_release k (commit_goes k commits)) in
       goes_part (record kept { place = record (kept.place) { agreed = kept.place.agreed + 1 } }) refl (commit_goes k commits) (was.lists ∙ sym same) (commit_place m l p q h.there (next_of m q) found kept.place placed k commits)
       (commit_open m l p q h.there (next_of m q) found kept.place placed k commits) same
-      (commit_epoch m l p q h.there (next_of m q) found kept.place.epoch was_epoch (λ word. goes_epoch m l p.nodes.free q k x (commit_other k commits) asked h.ready kept.place.epoch (agrees m l q word) (q.trail ++ word ∷ []) refl refl) k commits)
+      (commit_epoch m l p q h.there (next_of m q) found kept.place.epoch was_epoch (λ word. goes_epoch m l p.nodes.free p.blocks.free q k x (commit_other k commits) asked h.ready kept.place.epoch (agrees m l q word) (q.trail ++ word ∷ []) refl refl) k commits)
 
   -- after a step of the end
   ends_part : is_ender k ≡ true → (kept' : KeptState) → kept'.part ≡ told_part p' → p'.nodes ≡ p.nodes → KeepsPart m (record { lists = kept'; place = at_end kept.place }) p'
@@ -500,7 +513,7 @@ module _ (m : Meaning) (l : Layout) (k : EventKind) (kept : Block) (p : PartStat
       record {
         lists = lists;
         place = record { run = λ y e. (run y e).0; outside = λ none. refl; in_hand = hand_stays (at_end kept.place) run nodes };
-        run = record { ending = λ y e ready closed. ends_run m l p q (next_of m q) found k ender (ender_ends m l p.nodes.free q k ender (next_of m q) x asked) y e };
+        run = record { ending = λ y e ready closed. ends_run m l p q (next_of m q) found k ender (ender_ends m l p.nodes.free p.blocks.free q k ender (next_of m q) x asked) y e };
         epoch = ender_epoch m l p q h.there (next_of m q) found kept.place.epoch was_epoch k ender;
       }
 
@@ -511,7 +524,7 @@ module _ (m : Meaning) (l : Layout) (k : EventKind) (kept : Block) (p : PartStat
       ends_part ender kept.lists (was.lists ∙ sym same) (ap (λ (z : PartState). z.nodes) same)
 
 -- after a release, of which the last one, of the section's own lock, ends the run
-module _ (m : Meaning) (l : Layout) (kept : Block) (p : PartState) (found place : ℕ) (h : HasOpenRun p) (x : Spot × Access) (asked : line_ask m l kinds.Release p.nodes.free h.run (next_of m h.run) ≡ Some x) (was : KeepsPart m kept p)
+module _ (m : Meaning) (l : Layout) (kept : Block) (p : PartState) (found place : ℕ) (h : HasOpenRun p) (x : Spot × Access) (asked : line_ask m l kinds.Release p.nodes.free p.blocks.free h.run (next_of m h.run) ≡ Some x) (was : KeepsPart m kept p)
     (last : is_end (next_of m (ended_more h.run)) ≡ place == kept.place.lock) where
   abbrev read : PartState
   read = record p { reads = cell_read p.reads (place_of (next_of m h.run)) found }
@@ -531,49 +544,54 @@ module _ (m : Meaning) (l : Layout) (kept : Block) (p : PartState) (found place 
   released_part = ends_part m l kinds.Release kept p found h x asked was refl (lists_released kept.lists kept.place.descriptor (place == kept.place.lock))
       (ap (λ (b : Bool). (lists_released kept.lists kept.place.descriptor b).part) (sym last) ∙ lists_by (is_end (next_of m end))) (nodes_by (is_end (next_of m end)))
 
-released_room : (lists : KeptState) (descriptor : ℕ) (b : Bool) → beside (lists_released lists descriptor b) ≡ beside lists
-released_room lists descriptor true = refl
-released_room lists descriptor false = refl
+released_room : (lists : KeptState) (descriptor : ℕ) (b : Bool) → ((lists_released lists descriptor b).room ≡ lists.room) × ((lists_released lists descriptor b).marks ≡ lists.marks)
+released_room lists descriptor true = (refl, refl)
+released_room lists descriptor false = (refl, refl)
 
-line_by : (m : Meaning) (l : Layout) (k : EventKind) (free : List ℕ) (q : RunState) (x : Spot × Access) (b : Bool) → opening_ask k q ≡ None
-    → (if b then line_ask m l k free q (next_of m q) else opening_ask k q) ≡ Some x → line_ask m l k free q (next_of m q) ≡ Some x
-line_by m l k free q x true none e = e
-line_by m l k free q x false none e = absurd (none-some x (sym none ∙ e))
+released_blocks : (lists : KeptState) (descriptor : ℕ) (b : Bool)
+    → ((if b then links_over lists.blocks descriptor else lists.blocks) ≡ (lists_released lists descriptor b).blocks) × (lists.named ≡ (lists_released lists descriptor b).named)
+released_blocks lists descriptor true = (refl, refl)
+released_blocks lists descriptor false = (refl, refl)
+
+line_by : (m : Meaning) (l : Layout) (k : EventKind) (free blocks : List ℕ) (q : RunState) (x : Spot × Access) (b : Bool) → opening_ask k q ≡ None
+    → (if b then line_ask m l k free blocks q (next_of m q) else opening_ask k q) ≡ Some x → line_ask m l k free blocks q (next_of m q) ≡ Some x
+line_by m l k free blocks q x true none e = e
+line_by m l k free blocks q x false none e = absurd (none-some x (sym none ∙ e))
 
 asked_by : (m : Meaning) (l : Layout) (rs : List Request) (r : ℕ) (k : EventKind) (p : PartState) (o : Option RunState) (q : RunState) (x : Spot × Access) → is_inner k ≡ true → o ≡ Some q
-    → ask_by m l rs r k p o ≡ Some x → line_ask m l k p.nodes.free q (next_of m q) ≡ Some x
-asked_by m l rs r k p o q x e there h = line_by m l k p.nodes.free q x (is_open_run q) (no_opening k q e) (sym (ap (ask_by m l rs r k p) there) ∙ h)
+    → ask_by m l rs r k p o ≡ Some x → line_ask m l k p.nodes.free p.blocks.free q (next_of m q) ≡ Some x
+asked_by m l rs r k p o q x e there h = line_by m l k p.nodes.free p.blocks.free q x (is_open_run q) (no_opening k q e) (sym (ap (ask_by m l rs r k p) there) ∙ h)
 
 -- what the step of a run asks that comes next
 pub line_asked : {T : Type 0} (m : Meaning) (r : RunnerState T) (k : EventKind) (q : RunState) (x : Spot × Access) → is_inner k ≡ true → r.part.run ≡ Some q → met_by m r k ≡ Some x
-    → line_ask m r.layout k r.part.nodes.free q (next_of m q) ≡ Some x
-line_asked m r k q x e there h = asked_by m r.layout r.requests r.number k r.part r.part.run q x e there (unless_gone (sizes_for m r.layout r.requests) r.part.gone (ask_by m r.layout r.requests r.number k r.part r.part.run) x (unblocked m r.layout r.requests r.number k r.part x h))
+    → line_ask m r.layout k r.part.nodes.free r.part.blocks.free q (next_of m q) ≡ Some x
+line_asked m r k q x e there h = asked_by m r.layout r.requests r.number k r.part r.part.run q x e there (unless_gone (sizes_for m r.layout r.requests) r.part.gone (ask_by m r.layout r.requests r.number k r.part r.part.run) x h)
 
 module _ {T : Type 0} (mean : T → Meaning) (s : T) (k : EventKind) (found number : ℕ) (kept : Block) (old_table new_table : TableId) (me me' : Me Thunk (View T)) (live : me.0.structure ≡ Some s)
     (made : Makes (mean s) k found (seen_seat old_table me) (seen_seat new_table me')) (slots : me'.1 ≡ me.1) (was : IsKept mean number kept me) (inner : is_inner k ≡ true) where
   opens : HasOpenRun me.0.part
   opens = opened_run (mean s) me.0.layout me.0.requests me.0.number k me.0.part made.met inner made.asked
 
-  next_asked : line_ask (mean s) me.0.layout k me.0.part.nodes.free opens.run (next_of (mean s) opens.run) ≡ Some made.met
+  next_asked : line_ask (mean s) me.0.layout k me.0.part.nodes.free me.0.part.blocks.free opens.run (next_of (mean s) opens.run) ≡ Some made.met
   next_asked = line_asked (mean s) (seen_seat old_table me) k opens.run made.met inner opens.there made.asked
 
-  run_kept : (kept' : Block) → beside kept'.lists ≡ beside kept.lists → KeepsPart (mean s) kept' (line_after (mean s) me.0.layout k me.0.part opens.run (next_of (mean s) opens.run) found) → IsKept mean number kept' me'
-  run_kept kept' room h = then_kept mean s k found number kept old_table new_table me me' live made slots was (inner_left k inner) kept' room (subst (KeepsPart (mean s) kept') (sym (step_is (mean s) me.0.layout k me.0.part found opens)) h)
+  run_kept : is_release k ≡ false → (kept' : Block) → beside kept'.lists ≡ beside kept.lists → KeepsPart (mean s) kept' (line_after (mean s) me.0.layout k me.0.part opens.run (next_of (mean s) opens.run) found) → IsKept mean number kept' me'
+  run_kept n kept' room h = then_kept mean s k found number kept old_table new_table me me' live made slots was (inner_left k inner n) kept' room (subst (KeepsPart (mean s) kept') (sym (step_is (mean s) me.0.layout k me.0.part found opens)) h)
 
   abbrev before : KeepsPart (mean s) kept me.0.part
   before = was_part mean s k found number kept old_table new_table me me' live made slots was
 
   -- what the code keeps after a step of a run that leaves the lists and the log
   pub quiet_kept : is_quiet k ≡ true → is_ender k ≡ false → IsKept mean number kept me'
-  quiet_kept quiet n = run_kept kept refl (stays_part (mean s) me.0.layout k kept me.0.part found opens made.met next_asked before quiet n)
+  quiet_kept quiet n = run_kept (no_release k n) kept refl (stays_part (mean s) me.0.layout k kept me.0.part found opens made.met next_asked before quiet n)
 
   -- after a commit of a loaded word
   pub commit_kept : is_commit k ≡ true → IsKept mean number (record kept { place = record (kept.place) { agreed = kept.place.agreed + 1 } }) me'
-  commit_kept commits = run_kept (record kept { place = record (kept.place) { agreed = kept.place.agreed + 1 } }) refl (commit_part (mean s) me.0.layout k kept me.0.part found opens made.met next_asked before commits)
+  commit_kept commits = run_kept (no_release k (commit_goes k commits)) (record kept { place = record (kept.place) { agreed = kept.place.agreed + 1 } }) refl (commit_part (mean s) me.0.layout k kept me.0.part found opens made.met next_asked before commits)
 
   -- after the done word was set
   pub done_set_kept : is_ender k ≡ true → is_release k ≡ false → IsKept mean number (record kept { place = at_end kept.place }) me'
-  done_set_kept ender n = run_kept (record kept { place = at_end kept.place }) refl (done_part (mean s) me.0.layout k kept me.0.part found opens made.met next_asked before ender n)
+  done_set_kept ender n = run_kept n (record kept { place = at_end kept.place }) refl (done_part (mean s) me.0.layout k kept me.0.part found opens made.met next_asked before ender n)
 
 -- what the code keeps after a release
 module _ {T : Type 0} (mean : T → Meaning) (s : T) (found number : ℕ) (kept : Block) (old_table new_table : TableId) (me me' : Me Thunk (View T)) (live : me.0.structure ≡ Some s)
@@ -584,9 +602,19 @@ module _ {T : Type 0} (mean : T → Meaning) (s : T) (found number : ℕ) (kept 
 
   pub release_kept : (place : ℕ) → is_end (next_of (mean s) (ended_more releasing.run)) ≡ place == kept.place.lock → IsKept mean number (block_released kept place) me'
   unfolding releasing opens
-  release_kept place last = run_kept mean s kinds.Release found number kept old_table new_table me me' live made slots was refl (block_released kept place) (released_room kept.lists kept.place.descriptor (place == kept.place.lock))
+  release_kept place last =
+      let over = place == kept.place.lock in let q = releasing.run in let d = kept.place.descriptor in
+      let room = released_room kept.lists d over in let blocks = released_blocks kept.lists d over in
+      let same : d ≡ q.descriptor = (was.place.run q releasing.there).descriptor in
+      then_kept_with mean s kinds.Release found number kept old_table new_table me me' live made slots was refl (block_released kept place) room.0 room.1
+      (blocks_to blocks.0 blocks.1
+      (subst (λ (n : ℕ). KeepsBlocks (with_blocks kept.lists (if over then links_over kept.lists.blocks n else kept.lists.blocks)) me'.0.part) (sym same)
+      (subst (KeepsBlocks (with_blocks kept.lists (if over then links_over kept.lists.blocks q.descriptor else kept.lists.blocks)))
+      (sym (part_is mean s kinds.Release found number kept old_table new_table me me' live made slots was))
+      (released (mean s) me.0.layout me.0.number made.met.0 made.met.1 me.0.part found kept.lists was.blocks q releasing.there releasing.ready over last))))
+      (subst (KeepsPart (mean s) (block_released kept place)) (sym (step_is (mean s) me.0.layout kinds.Release me.0.part found releasing))
       (released_part (mean s) me.0.layout kept me.0.part found place releasing made.met (next_asked mean s kinds.Release found number kept old_table new_table me me' live made slots was refl)
-      (was_part mean s kinds.Release found number kept old_table new_table me me' live made slots was) last)
+      (was_part mean s kinds.Release found number kept old_table new_table me me' live made slots was) last))
 
 -- what an exchange expects
 abbrev old_of : Access → ℕ
@@ -649,30 +677,74 @@ may_release m r q place word new limits there h =
 pub has_run : {T : Type 0} (m : Meaning) (r : RunnerState T) (k : EventKind) (x : Spot × Access) → is_inner k ≡ true → met_by m r k ≡ Some x → (q : RunState) × (r.part.run ≡ Some q)
 has_run m r k x e h = let o = opened_run m r.layout r.requests r.number k r.part x e h in (o.run, o.there)
 
--- a commit goes to a word of the log, which has 64
-pub log_low : {T : Type 0} (m : Meaning) (r : RunnerState T) (k : EventKind) (access : Access) (kept : RunPlace) (q : RunState) → r.part.run ≡ Some q → IsPlaced kept q → met_by m r k ≡ Some (next_log r.part.run, access) → kept.agreed < 64
-log_low m r k access kept q run placed h =
-    let fits = asked_fits m r.layout r.requests [] [] (record { runner = r.number; kind = k }) r.part (next_log r.part.run, access) h in
-    let low = (subst (λ (o : Option RunState). Fits (sizes_for m r.layout r.requests) (next_log o)) run fits).1 in let same = placed.agreed in omega (arith, low, same)
+second_false : (a b : Bool) → b ≡ false → a && b ≡ false
+second_false true b e = e
+second_false false b e = refl
+
+not_false : (b : Bool) → (b ≡ false → ⊥) → b ≡ true
+not_false b not_so = by b refl
+  where
+    by : (c : Bool) → b ≡ c → c ≡ true
+    by true e = refl
+    by false e = absurd (not_so e)
 
 -- what the code keeps after a load of a cell, in a run or outside
 module _ {T : Type 0} (mean : T → Meaning) (s : T) (place found number : ℕ) (kept : Block) (old_table new_table : TableId) (me me' : Me Thunk (View T)) (live : me.0.structure ≡ Some s)
     (slots : me'.1 ≡ me.1) (was : IsKept mean number kept me) where
-  cell_by : (o : Option RunState) → me.0.part.run ≡ o → Makes (mean s) (load_of o place) found (seen_seat old_table me) (seen_seat new_table me') → IsKept mean number kept me'
-  cell_by None none made =
-      let b = was_part mean s (kinds.LoadCell (Some place)) found number kept old_table new_table me me' live made slots was in
-      then_kept mean s (kinds.LoadCell (Some place)) found number kept old_table new_table me me' live made slots was refl kept refl
-      (subst (KeepsPart (mean s) kept) (sym (ap (λ (o : Option RunState). after_by (mean s) me.0.layout (kinds.LoadCell (Some place)) me.0.part o found) none))
-      (record {
-        lists = b.lists ∙ sym (told_read (mean s) place found me.0.part);
-        place = record { run = b.place.run; outside = b.place.outside; in_hand = b.place.in_hand };
-        run = record { ending = b.run.ending };
-        epoch = record { opening = b.epoch.opening; retiring = b.epoch.retiring };
-      }))
-  cell_by (Some q) there made = quiet_kept mean s (kinds.LoadCell None) found number kept old_table new_table me me' live made slots was refl refl refl
+  -- outside a run these blocks are those that it has then; in a run they stay
+  module _ (blocks : BlocksKept) (links : blocks.links ≡ kept.lists.blocks.links) (seen_so : kept.place.inside ≡ false → blocks.lists ≡ blocks_seen me.0.part.guards ((mean s).is_lock place) found me.0.part.blocks)
+      (stay : kept.place.inside ≡ true → blocks ≡ kept.lists.blocks) where
+    abbrev kept' : Block
+    kept' = record kept { lists = with_blocks kept.lists blocks }
 
-  pub cell_kept : Makes (mean s) (load_of me.0.part.run place) found (seen_seat old_table me) (seen_seat new_table me') → IsKept mean number kept me'
-  cell_kept made = cell_by me.0.part.run refl made
+    cell_by : (o : Option RunState) → me.0.part.run ≡ o → Makes (mean s) (load_of o place) found (seen_seat old_table me) (seen_seat new_table me') → IsKept mean number kept' me'
+    cell_by None none made =
+        let b = was_part mean s (kinds.LoadCell (Some place)) found number kept old_table new_table me me' live made slots was in
+        then_kept_with mean s (kinds.LoadCell (Some place)) found number kept old_table new_table me me' live made slots was refl kept' refl refl
+        (subst (KeepsBlocks (with_blocks kept.lists blocks)) (sym (part_is mean s (kinds.LoadCell (Some place)) found number kept old_table new_table me me' live made slots was))
+        (seen (mean s) me.0.layout me.0.number made.met.0 made.met.1 me.0.part found kept.lists was.blocks none place blocks links (seen_so (was.place.outside none))))
+        (subst (KeepsPart (mean s) kept') (sym (ap (λ (o : Option RunState). after_by (mean s) me.0.layout (kinds.LoadCell (Some place)) me.0.part o found) none))
+        (record {
+          lists = b.lists ∙ sym (told_read (mean s) place found me.0.part);
+          place = record { run = b.place.run; outside = b.place.outside; in_hand = b.place.in_hand };
+          run = record { ending = b.run.ending };
+          epoch = record { opening = b.epoch.opening; retiring = b.epoch.retiring };
+        }))
+    cell_by (Some q) there made =
+        let opens = opens mean s (kinds.LoadCell None) found number kept old_table new_table me me' live made slots was refl in
+        let asked = next_asked mean s (kinds.LoadCell None) found number kept old_table new_table me me' live made slots was refl in
+        let before = was_part mean s (kinds.LoadCell None) found number kept old_table new_table me me' live made slots was in
+        let inside : kept.place.inside ≡ true = not_false kept.place.inside
+        (λ closed. goes_inside (mean s) me.0.layout kept me.0.part opens.run (kinds.LoadCell None) made.met before opens.there opens.ready refl asked closed) in
+        subst (λ (b : BlocksKept). IsKept mean number (record kept { lists = with_blocks kept.lists b }) me') (sym (stay inside))
+        (quiet_kept mean s (kinds.LoadCell None) found number kept old_table new_table me me' live made slots was refl refl refl)
+
+    cell_kept : Makes (mean s) (load_of me.0.part.run place) found (seen_seat old_table me) (seen_seat new_table me') → IsKept mean number kept' me'
+    cell_kept made = cell_by me.0.part.run refl made
+
+  abbrev lock : Bool
+  lock = (mean s).is_lock place
+
+  -- the guard word that the code keeps is that of the part
+  names_so : names kept.lists.named found ≡ names me.0.part.guards.named found
+  names_so = ap (λ (o : Option ℕ). names o found) was.blocks.named
+
+  unseen : IsUnseen (mean s) kept place found → kept.lists.blocks.lists ≡ blocks_seen me.0.part.guards lock found me.0.part.blocks
+  unseen none = ⊎_elim
+      (λ empty. was.blocks.lists ∙ sym (seen_none me.0.part.guards lock found me.0.part.blocks (ap (λ (b : BlocksState). length b.limbo) (sym was.blocks.lists) ∙ empty)))
+      (λ rest. was.blocks.lists ∙ sym (seen_unnamed me.0.part.guards lock found me.0.part.blocks (⊎_elim
+      (λ other. second_false lock (names me.0.part.guards.named found) (sym names_so ∙ other))
+      (λ cell. ap (λ (b : Bool). b && names me.0.part.guards.named found) cell) rest))) none
+
+  -- what the code keeps after the load, by whether it made the runner sure of a descriptor
+  pub cell_saw : (sure : Bool) → (sure ≡ false → kept.place.inside ≡ false → IsUnseen (mean s) kept place found) → (sure ≡ true → IsSeen (mean s) kept place found)
+      → Makes (mean s) (load_of me.0.part.run place) found (seen_seat old_table me) (seen_seat new_table me') → IsKept mean number (block_saw kept sure found) me'
+  cell_saw true none some made =
+      let is = some refl in
+      cell_kept (blocks_are kept.lists.blocks (blocks_given_back (value_of found - 1) kept.lists.blocks.lists)) refl
+      (λ outside. ap (blocks_given_back (value_of found - 1)) was.blocks.lists ∙ sym (seen_named_so me.0.part.guards lock found me.0.part.blocks (λ i. is.lock i && (sym names_so ∙ is.names) i)))
+      (λ inside. absurd (true≢false (sym inside ∙ is.outside))) made
+  cell_saw false none some made = cell_kept kept.lists.blocks refl (λ outside. unseen (none refl outside)) (λ inside. refl) made
 
 -- the step that loads a cell has the event's name
 pub cell_event : {T : Type 0} (m : Meaning) (t : TableState T) (r : RunnerState T) → IsOf t r → (place found : ℕ) (r' : RunnerState T)

@@ -17,10 +17,11 @@ use Rattle.runner_block.specs.declared.block.Block.{Block}
 use Rattle.runner_block.specs.declared.marks.Mark.{Mark}
 use Rattle.runner_block.specs.Kept.{KeptState, with_part, with_marks}
 use Rattle.runner_block.specs.Marks.{marks_of}
+use Rattle.runner_block.specs.Links.{BlocksKept}
 use Rattle.machine_states.specs.runner_steps.specs.Board.{board_after}
 use Rattle.version_words.specs.RunnerState.{RunnerState, told_part}
-use Rattle.version_words.specs.Place.{HasPlace, HasEpoch, EndsSo}
-use Rattle.version_words.specs.Kept.{IsKept, IsOfTable}
+use Rattle.version_words.specs.Place.{HasPlace, HasLinks, HasEpoch, EndsSo}
+use Rattle.version_words.specs.Kept.{KeepsBlocks, IsKept, IsOfTable}
 use Rattle.version_words.specs.Events.{IsEnabled, Makes, seen_seat}
 use Rattle.version_words.specs.Rule.{joining, splitting}
 use Rattle.machine_states.specs.table_words.specs.declared.layout.Layout.{Layout}
@@ -29,11 +30,16 @@ use Rattle.std.specs.Prelude.{nat_lt, ◌+◌, ◌&&◌, List, if◌then◌else�
 use Rattle.std.proofs.lemmas.Bool.{and_parts}
 use Rattle.std.proofs.lemmas.Option.{none-some}
 use Rattle.version_words.proofs.Asked.{is_outer, in_no_run}
+use Rattle.version_words.proofs.BlocksKept.{leaves_blocks, keeps_blocks, blocks_to}
 use Rattle.version_words.proofs.Told.{told, told_outside, still_outside, leaves_board, board_left}
 
--- what a step of the code keeps beside the part: the room, and mostly the marks
-abbrev pub beside : KeptState → ℕ × List Mark
-beside kept = (kept.room, kept.marks)
+-- what a step of the code keeps beside the part: the room, and mostly the marks and the blocks
+abbrev pub beside : KeptState → ℕ × (List Mark × (BlocksKept × Option ℕ))
+beside kept = (kept.room, (kept.marks, (kept.blocks, kept.named)))
+
+-- the kinds of step that leave the board's marks and the blocks
+abbrev pub leaves_all : EventKind → Bool
+leaves_all k = leaves_board k && leaves_blocks k
 
 -- the block is that of this part
 pub record KeepsPart (m : Meaning) (kept : Block) (p : PartState) : Type 0 where
@@ -52,11 +58,13 @@ module _ {T : Type 0} (mean : T → Meaning) (number : ℕ) (kept : Block) (me m
   none_runs : (q : RunState) → view'.part.run ≡ Some q → ⊥
   none_runs q e = none-some q (sym rests ∙ e)
 
-  pub resting_kept : (lists : KeptState) → lists.room ≡ kept.lists.room → lists.part ≡ told_part view'.part → lists.marks ≡ marks_of view'.part.board → IsKept mean number (record kept { lists = lists }) me'
-  resting_kept lists room told_so marks = record {
+  pub resting_kept : (lists : KeptState) → lists.room ≡ kept.lists.room → lists.part ≡ told_part view'.part → lists.marks ≡ marks_of view'.part.board → KeepsBlocks lists view'.part
+      → IsKept mean number (record kept { lists = lists }) me'
+  resting_kept lists room told_so marks blocks = record {
     same_number = was.same_number ∙ (same_number ∙ ap (λ (v : View T). v.number) is);
     lists = told_so ∙ ap (λ (v : View T). told_part v.part) is;
     marks = marks ∙ ap (λ (v : View T). marks_of v.part.board) is;
+    blocks = subst (λ (v : View T). KeepsBlocks lists v.part) is blocks;
     place = subst (λ (v : View T). HasPlace kept.place v.part) is (record {
       run = λ q e. absurd (none_runs q e);
       outside = λ e. was.place.outside rested;
@@ -75,17 +83,20 @@ module _ {T : Type 0} (mean : T → Meaning) (s : T) (k : EventKind) (found numb
   pub was_part : KeepsPart (mean s) kept me.0.part
   was_part = record { lists = was.lists; place = was.place; run = (was.of_table s live).run; epoch = (was.of_table s live).epoch }
 
-  part_is : me'.0.part ≡ after (mean s) me.0.layout me.0.number k made.met.0 made.met.1 me.0.part found
+  pub part_is : me'.0.part ≡ after (mean s) me.0.layout me.0.number k made.met.0 made.met.1 me.0.part found
   part_is = ap (λ (r : RunnerState T). r.part) made.made
 
   -- the marks behind a step that leaves what the runner knows of the board
   same_marks : leaves_board k ≡ true → (marks : List Mark) → marks ≡ kept.lists.marks → marks ≡ marks_of (board_after k me.0.part.board found)
   same_marks left marks same = same ∙ (was.marks ∙ sym (ap marks_of (board_left k me.0.part.board found left)))
 
-  module _ (left : leaves_board k ≡ true) (kept' : Block) (same : beside kept'.lists ≡ beside kept.lists) (h : KeepsPart (mean s) kept' (stepped (mean s) me.0.layout k me.0.part found)) where
-    room : kept'.lists.room ≡ kept.lists.room
-    room = ap (λ (z : ℕ × List Mark). z.0) same
+  -- the blocks behind a step that leaves them
+  same_blocks : leaves_blocks k ≡ true → (lists : KeptState) → lists.blocks ≡ kept.lists.blocks → lists.named ≡ kept.lists.named → KeepsBlocks lists me'.0.part
+  same_blocks quiet lists blocks named = blocks_to (sym blocks) (sym named)
+      (subst (KeepsBlocks kept.lists) (sym part_is) (keeps_blocks (mean s) me.0.layout me.0.number k made.met.0 made.met.1 me.0.part found kept.lists quiet was.blocks))
 
+  module _ (left : leaves_board k ≡ true) (kept' : Block) (room : kept'.lists.room ≡ kept.lists.room) (marked : kept'.lists.marks ≡ kept.lists.marks) (blocks : KeepsBlocks kept'.lists me'.0.part)
+      (h : KeepsPart (mean s) kept' (stepped (mean s) me.0.layout k me.0.part found)) where
     ends : EndsSo (mean s) kept'.place me'.0.part.run
     ends = record { ending = λ q e. h.run.ending q (sym (ap (λ (p : PartState). p.run) part_is) ∙ e) }
 
@@ -101,50 +112,60 @@ module _ {T : Type 0} (mean : T → Meaning) (s : T) (k : EventKind) (found numb
           epoch = subst (λ (y : T). HasEpoch (mean y) kept'.place.epoch me'.0.part.run) (some_same s s' (sym live ∙ same)) epoch_there;
         }
 
-    -- a block that is that of the part after the step
-    pub then_kept : IsKept mean number kept' me'
-    then_kept = record {
+    -- what the code keeps is that of the part after the step
+    pub then_kept_with : IsKept mean number kept' me'
+    then_kept_with = record {
       same_number = was.same_number ∙ sym (ap (λ (r : RunnerState T). r.number) made.made);
       lists = h.lists ∙ sym (ap told_part part_is ∙ told (mean s) me.0.layout me.0.number k made.met.0 made.met.1 me.0.part found);
-      marks = same_marks left kept'.lists.marks (ap (λ (z : ℕ × List Mark). z.1) same) ∙ sym (ap (λ (p : PartState). marks_of p.board) part_is);
+      marks = same_marks left kept'.lists.marks marked ∙ sym (ap (λ (p : PartState). marks_of p.board) part_is);
+      blocks = blocks;
       place = subst (HasPlace kept'.place) (sym part_is) (record { run = h.place.run; outside = h.place.outside; in_hand = h.place.in_hand });
       slots = slots ∙ was.slots;
       of_table = of_table;
     }
 
+  -- and so behind a step that leaves the marks and the blocks
+  pub then_kept : leaves_all k ≡ true → (kept' : Block) → beside kept'.lists ≡ beside kept.lists → KeepsPart (mean s) kept' (stepped (mean s) me.0.layout k me.0.part found) → IsKept mean number kept' me'
+  then_kept left kept' same h =
+      let both = and_parts (leaves_board k) (leaves_blocks k) left in
+      then_kept_with both.0 kept' (ap (λ (z : ℕ × (List Mark × (BlocksKept × Option ℕ))). z.0) same) (ap (λ (z : ℕ × (List Mark × (BlocksKept × Option ℕ))). z.1.0) same)
+      (same_blocks both.1 kept'.lists (ap (λ (z : ℕ × (List Mark × (BlocksKept × Option ℕ))). z.1.1.0) same) (ap (λ (z : ℕ × (List Mark × (BlocksKept × Option ℕ))). z.1.1.1) same)) h
+
   module _ (outer : is_outer k ≡ true) where
-    resting : me.0.part.run ≡ None
+    pub resting : me.0.part.run ≡ None
     resting = in_no_run (mean s) (seen_seat old_table me) k outer (record { met = made.met; asked = made.asked })
 
     -- a step in no run
     pub outer_kept : (lists : KeptState) → lists.room ≡ kept.lists.room → lists.part ≡ told_part (outside_after (mean s) me.0.layout k me.0.part found)
-        → lists.marks ≡ marks_of (board_after k me.0.part.board found) → IsKept mean number (record kept { lists = lists }) me'
-    outer_kept lists room is marks = resting_kept mean number kept me me' me'.0 refl (sym (ap (λ (r : RunnerState T). r.number) made.made)) (sym (ap (λ (r : RunnerState T). r.layout) made.made)) (sym (ap (λ (r : RunnerState T). r.structure) made.made))
+        → lists.marks ≡ marks_of (board_after k me.0.part.board found) → KeepsBlocks lists me'.0.part → IsKept mean number (record kept { lists = lists }) me'
+    outer_kept lists room is marks blocks = resting_kept mean number kept me me' me'.0 refl (sym (ap (λ (r : RunnerState T). r.number) made.made)) (sym (ap (λ (r : RunnerState T). r.layout) made.made)) (sym (ap (λ (r : RunnerState T). r.structure) made.made))
         slots was resting (ap (λ (p : PartState). p.run) part_is ∙ still_outside (mean s) me.0.layout me.0.part found me.0.number k made.met.0 made.met.1 outer resting) lists room
         (is ∙ sym (ap told_part part_is ∙ told_outside (mean s) me.0.layout me.0.number k made.met.0 made.met.1 me.0.part found resting))
-        (marks ∙ sym (ap (λ (p : PartState). marks_of p.board) part_is))
+        (marks ∙ sym (ap (λ (p : PartState). marks_of p.board) part_is)) blocks
 
     -- a step in no run that changes the lists and the marks as the code does
-    pub marked_kept : (lists : KeptState) (f : PartState → PartState) (marks : List Mark) → lists ≡ with_marks (with_part kept.lists (f kept.lists.part)) marks
+    pub marked_kept : leaves_blocks k ≡ true → (lists : KeptState) (f : PartState → PartState) (marks : List Mark) → lists ≡ with_marks (with_part kept.lists (f kept.lists.part)) marks
         → f (told_part me.0.part) ≡ told_part (outside_after (mean s) me.0.layout k me.0.part found) → marks ≡ marks_of (board_after k me.0.part.board found)
         → IsKept mean number (record kept { lists = lists }) me'
-    marked_kept lists f marks is same marked = outer_kept lists (ap (λ l. l.room) is) (ap (λ l. l.part) is ∙ (ap f was.lists ∙ same)) (ap (λ l. l.marks) is ∙ marked)
+    marked_kept quiet lists f marks is same marked = outer_kept lists (ap (λ l. l.room) is) (ap (λ l. l.part) is ∙ (ap f was.lists ∙ same)) (ap (λ l. l.marks) is ∙ marked)
+        (same_blocks quiet lists (ap (λ l. l.blocks) is) (ap (λ l. l.named) is))
 
-  module _ (still : (is_outer k && leaves_board k) ≡ true) where
+  module _ (still : (is_outer k && leaves_all k) ≡ true) where
     outer : is_outer k ≡ true
-    outer = (and_parts (is_outer k) (leaves_board k) still).0
+    outer = (and_parts (is_outer k) (leaves_all k) still).0
 
-    left : leaves_board k ≡ true
-    left = (and_parts (is_outer k) (leaves_board k) still).1
+    both : (leaves_board k ≡ true) × (leaves_blocks k ≡ true)
+    both = and_parts (leaves_board k) (leaves_blocks k) (and_parts (is_outer k) (leaves_all k) still).1
 
     -- a step in no run that leaves the lists
     pub idle_kept : told_part (outside_after (mean s) me.0.layout k me.0.part found) ≡ told_part me.0.part → IsKept mean number kept me'
-    idle_kept same = outer_kept outer kept.lists refl (was.lists ∙ sym same) (same_marks left kept.lists.marks refl)
+    idle_kept same = outer_kept outer kept.lists refl (was.lists ∙ sym same) (same_marks both.0 kept.lists.marks refl) (same_blocks both.1 kept.lists refl refl)
 
     -- a step in no run that changes the lists as the code does
     pub lists_kept : (lists : KeptState) (f : PartState → PartState) → lists ≡ with_part kept.lists (f kept.lists.part) → f (told_part me.0.part) ≡ told_part (outside_after (mean s) me.0.layout k me.0.part found)
         → IsKept mean number (record kept { lists = lists }) me'
-    lists_kept lists f is same = outer_kept outer lists (ap (λ l. l.room) is) (ap (λ l. l.part) is ∙ (ap f was.lists ∙ same)) (same_marks left lists.marks (ap (λ l. l.marks) is))
+    lists_kept lists f is same = outer_kept outer lists (ap (λ l. l.room) is) (ap (λ l. l.part) is ∙ (ap f was.lists ∙ same)) (same_marks both.0 lists.marks (ap (λ l. l.marks) is))
+        (same_blocks both.1 lists (ap (λ l. l.blocks) is) (ap (λ l. l.named) is))
 
 -- a keeper that joins a worker keeps what it has
 module _ {T : Type 0} (mean : T → Meaning) (s : T) (number : ℕ) (kept : Block) (own_table : TableId) (me me' : Me Thunk (View T)) (w : View T) (live : me.0.structure ≡ Some s)
@@ -159,6 +180,7 @@ module _ {T : Type 0} (mean : T → Meaning) (s : T) (number : ℕ) (kept : Bloc
   join_kept = resting_kept mean number kept me me' (record (me.0) { part = knows_also met w.part; joined = (w.number, w.part) ∷ me.0.joined }) (sym (joins ∙ ap (joining mean me.0 w) live)) refl refl refl slots was joined_rested
       (still_outside (mean s) me.0.layout me.0.part 0 me.0.number (kinds.Join w.number) spots.Seat Loads refl joined_rested) kept.lists refl
       (was.lists ∙ sym (told_outside (mean s) me.0.layout me.0.number (kinds.Join w.number) spots.Seat Loads me.0.part 0 joined_rested)) was.marks
+      (let here = keeps_blocks (mean s) me.0.layout me.0.number (kinds.Join w.number) spots.Seat Loads me.0.part 0 kept.lists refl was.blocks in record { lists = here.lists; named = here.named; links = here.links })
 
 -- a keeper that splits off a worker counts it
 module _ {T : Type 0} (mean : T → Meaning) (s : T) (number : ℕ) (kept : Block) (own_table : TableId) (me me' : Me Thunk (View T)) (live : me.0.structure ≡ Some s)
@@ -177,3 +199,8 @@ module _ {T : Type 0} (mean : T → Meaning) (s : T) (number : ℕ) (kept : Bloc
       (ap (λ k. k.part) is ∙ (ap (λ (z : Layout). split_after z kept.lists.part) same ∙ (ap (split_after me.0.layout) was.lists
       ∙ (split_told (nat_lt me.0.part.records.splits me.0.layout.runners) ∙ sym (told_outside (mean s) me.0.layout me.0.number kinds.Split spots.Seat Loads me.0.part 0 split_rested)))))
       (ap (λ k. k.marks) is ∙ was.marks)
+      (let here = keeps_blocks (mean s) me.0.layout me.0.number kinds.Split spots.Seat Loads me.0.part 0 kept.lists refl was.blocks in record {
+        lists = ap (λ k. k.blocks.lists) is ∙ here.lists;
+        named = ap (λ k. k.named) is ∙ here.named;
+        links = subst (λ k. HasLinks k.blocks.links (after (mean s) me.0.layout me.0.number kinds.Split spots.Seat Loads me.0.part 0).run) (sym is) here.links;
+      })

@@ -2,6 +2,8 @@ pub mod Lists
 pub mod Splits
 pub mod Asked
 pub mod Told
+pub mod BlocksKept
+pub mod BlockSteps
 pub mod Keeps
 pub mod Epochs
 pub mod Ties
@@ -20,8 +22,10 @@ pub mod Openings
 pub mod Privates
 pub mod Holds
 pub mod OwnLoads
+pub mod NextWords
 pub mod MakeSteps
 pub mod RetireSteps
+pub mod LinkSteps
 pub mod Entries
 pub mod GuardSteps
 pub mod BoardSteps

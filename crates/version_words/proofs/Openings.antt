@@ -28,7 +28,7 @@ use Rattle.machine_states.specs.runner_steps.specs.AfterOutside.{opened}
 use Rattle.machine_states.specs.runner_steps.specs.AfterInRun.{opened_more}
 use Rattle.machine_states.specs.runner_steps.specs.After.{line_after, after_by}
 use Rattle.machine_invariant.specs.After.{AreAllowed}
-use Rattle.machine_states.proofs.Blockless.{ask_by, line_ask, unblocked}
+use Rattle.machine_states.specs.runner_steps.specs.Asks.{ask_by, line_ask}
 use Rattle.version_words.specs.declared.view.View.{View}
 use Rattle.version_words.specs.ReachedWith.{ReachedWith}
 use Rattle.runner_block.specs.declared.place.RunPlace.{RunPlace}
@@ -49,9 +49,9 @@ use Rattle.machine_states.proofs.Steps.{some_same}
 use Rattle.version_words.proofs.Shows.{seen_then}
 
 -- a run that loads one more thunk word isn't open yet
-opens_by : (m : Meaning) (l : Layout) (free : List ℕ) (q : RunState) (x : Spot × Access) (b : Bool) → (if b then line_ask m l (kinds.LoadThunk None) free q (next_of m q) else open_more_ask q) ≡ Some x → (b ≡ false) × (open_more_ask q ≡ Some x)
-opens_by m l free q x true e = absurd (none-some x e)
-opens_by m l free q x false e = (refl, e)
+opens_by : (m : Meaning) (l : Layout) (free blocks : List ℕ) (q : RunState) (x : Spot × Access) (b : Bool) → (if b then line_ask m l (kinds.LoadThunk None) free blocks q (next_of m q) else open_more_ask q) ≡ Some x → (b ≡ false) × (open_more_ask q ≡ Some x)
+opens_by m l free blocks q x true e = absurd (none-some x e)
+opens_by m l free blocks q x false e = (refl, e)
 
 still_closed : (m : Meaning) (l : Layout) (p : PartState) (q : RunState) (found : ℕ) → is_open_run q ≡ false → after_by m l (kinds.LoadThunk None) p (Some q) found ≡ opened_more p q found
 still_closed m l p q found e = ap (λ (b : Bool). if b then line_after m l (kinds.LoadThunk None) p q (next_of m q) found else opened_more p q found) e
@@ -162,8 +162,8 @@ module _ {T : Type 0} (mean : T → Meaning) (s : T) (descriptor index found num
   more_kept : (q : RunState) → p.run ≡ Some q → index ≡ length q.opened → met_by m (seen_seat old_table me) (kinds.LoadThunk None) ≡ Some (spots.ThunkWord descriptor index, Loads)
       → Makes m (kinds.LoadThunk None) found (seen_seat old_table me) (seen_seat new_table me') → IsKept mean number kept' me'
   more_kept q there at asked made =
-      let o = opens_by m l p.nodes.free q (spots.ThunkWord descriptor index, Loads) (is_open_run q)
-      (sym (ap (ask_by m l me.0.requests me.0.number (kinds.LoadThunk None) p) there) ∙ unless_gone (sizes_for m l me.0.requests) p.gone (ask_by m l me.0.requests me.0.number (kinds.LoadThunk None) p p.run) (spots.ThunkWord descriptor index, Loads) (unblocked m l me.0.requests me.0.number (kinds.LoadThunk None) p (spots.ThunkWord descriptor index, Loads) asked)) in
+      let o = opens_by m l p.nodes.free p.blocks.free q (spots.ThunkWord descriptor index, Loads) (is_open_run q)
+      (sym (ap (ask_by m l me.0.requests me.0.number (kinds.LoadThunk None) p) there) ∙ unless_gone (sizes_for m l me.0.requests) p.gone (ask_by m l me.0.requests me.0.number (kinds.LoadThunk None) p p.run) (spots.ThunkWord descriptor index, Loads) asked) in
       let t = tested (nat_lt (length q.opened) 12) (spots.ThunkWord q.descriptor (length q.opened)) Loads (spots.ThunkWord descriptor index, Loads) o.1 in
       let more : length q.opened < 12 = (let a = t.0 in grind (arith, nat_tests)) in
       let is = was.place.run q there in let was_epoch = (was.of_table s live).epoch in let longer = length-append q.opened (found ∷ []) in
@@ -183,7 +183,7 @@ module _ {T : Type 0} (mean : T → Meaning) (s : T) (descriptor index found num
       same_epoch false false = refl
 
   -- the done word is loaded after the thunk words
-  done_opens : (q : RunState) (x : Spot × Access) (b : Bool) → (if b then line_ask m l kinds.LoadDone p.nodes.free q (next_of m q) else load_done_ask q) ≡ Some x → (b ≡ false) × (load_done_ask q ≡ Some x)
+  done_opens : (q : RunState) (x : Spot × Access) (b : Bool) → (if b then line_ask m l kinds.LoadDone p.nodes.free p.blocks.free q (next_of m q) else load_done_ask q) ≡ Some x → (b ≡ false) × (load_done_ask q ≡ Some x)
   done_opens q x true e = absurd (none-some x e)
   done_opens q x false e = (refl, e)
 
@@ -211,7 +211,7 @@ module _ {T : Type 0} (mean : T → Meaning) (s : T) (descriptor index found num
 
   -- what the code keeps once the done word was loaded
   pub done_kept : Makes m kinds.LoadDone found (seen_seat old_table me) (seen_seat new_table me') → IsKept mean number (record kept { place = record (kept.place) { inside = true } }) me'
-  done_kept made = done_by p.run refl made.met (unless_gone (sizes_for m l me.0.requests) p.gone (ask_by m l me.0.requests me.0.number kinds.LoadDone p p.run) made.met (unblocked m l me.0.requests me.0.number kinds.LoadDone p made.met made.asked)) made
+  done_kept made = done_by p.run refl made.met (unless_gone (sizes_for m l me.0.requests) p.gone (ask_by m l me.0.requests me.0.number kinds.LoadDone p p.run) made.met made.asked) made
 
   done_found_by : Laws m → IsWithinLimits me'.0.layout → AreAllowed me'.0.requests → (made : Makes m kinds.LoadDone found (seen_seat old_table me) (seen_seat new_table me')) (o : Option RunState) → p.run ≡ o
       → ask_by m l me.0.requests me.0.number kinds.LoadDone p o ≡ Some made.met → found ≤ 1
@@ -225,7 +225,7 @@ module _ {T : Type 0} (mean : T → Meaning) (s : T) (descriptor index found num
 
   -- the done word is 0 or 1
   pub done_found : Laws m → IsWithinLimits me'.0.layout → AreAllowed me'.0.requests → Makes m kinds.LoadDone found (seen_seat old_table me) (seen_seat new_table me') → found ≤ 1
-  done_found laws limits allowed made = done_found_by laws limits allowed made p.run refl (unless_gone (sizes_for m l me.0.requests) p.gone (ask_by m l me.0.requests me.0.number kinds.LoadDone p p.run) made.met (unblocked m l me.0.requests me.0.number kinds.LoadDone p made.met made.asked))
+  done_found laws limits allowed made = done_found_by laws limits allowed made p.run refl (unless_gone (sizes_for m l me.0.requests) p.gone (ask_by m l me.0.requests me.0.number kinds.LoadDone p p.run) made.met made.asked)
 
   by_run : (o : Option RunState) → p.run ≡ o → index ≡ opened_of o → met_by m (seen_seat old_table me) (open_of o descriptor) ≡ Some (spots.ThunkWord descriptor index, Loads)
       → Makes m (open_of o descriptor) found (seen_seat old_table me) (seen_seat new_table me') → IsKept mean number kept' me'

@@ -9,6 +9,7 @@ use Rattle.machine_states.specs.epoch_core.specs.small_lemmas.proofs.Numbers.{no
 use Rattle.atomic_table.specs.Table.{Me}
 use Rattle.atomic_table.specs.Seated.{TableId}
 use Rattle.machine_states.specs.map_history.specs.declared.op.Request.{Request}
+use Rattle.machine_states.specs.epoch_core.specs.small_lemmas.proofs.Numbers.{less_tested}
 use Rattle.machine_states.specs.body_terms.specs.declared.thunk.Thunk.{Thunk}
 use Rattle.machine_states.specs.body_terms.specs.declared.micro.Micro.{Micro}
 use Rattle.machine_states.specs.body_terms.specs.declared.micro.Micro.TheVariants as micros
@@ -19,7 +20,7 @@ use Rattle.machine_states.specs.table_words.specs.declared.spot.Spot.{Spot}
 use Rattle.machine_states.specs.table_words.specs.declared.spot.Spot.TheVariants as spots
 use Rattle.machine_states.specs.table_words.specs.declared.access.Access.{Access}
 use Rattle.machine_states.specs.table_words.specs.declared.access.Access.TheVariants.{Loads}
-use Rattle.machine_states.specs.table_words.specs.Places.{address, Fits, slot_count}
+use Rattle.machine_states.specs.table_words.specs.Places.{address, Fits, slot_count, descriptor_count}
 use Rattle.machine_states.specs.table_words.specs.Limits.{IsWithinLimits}
 use Rattle.machine_states.specs.structure_laws.specs.Meaning.{Meaning}
 use Rattle.machine_states.specs.structure_laws.specs.Laws.{Laws}
@@ -30,7 +31,7 @@ use Rattle.machine_states.specs.runner_parts.specs.Tests.{has, is_resting}
 use Rattle.machine_states.specs.epoch_core.specs.Lists.{times}
 use Rattle.machine_states.specs.runner_parts.specs.Lists.{slot_taken, nodes_looked}
 use Rattle.machine_states.specs.runner_steps.specs.Sections.{is_open_run, next_of}
-use Rattle.machine_states.specs.runner_steps.specs.Outside.{when, descriptor_spot}
+use Rattle.machine_states.specs.runner_steps.specs.Outside.{when, descriptor_spot, block_spot, blocks_from}
 use Rattle.machine_states.specs.runner_steps.specs.InRun.{is_cell, is_slot, make_slot, fill_load_ask}
 use Rattle.machine_states.specs.runner_steps.specs.Asks.{asks, sizes_for}
 use Rattle.machine_states.specs.runner_steps.specs.AfterInRun.{goes_on, fill_loaded}
@@ -38,7 +39,8 @@ use Rattle.machine_states.specs.runner_steps.specs.AfterOutside.{descriptor_know
 use Rattle.machine_states.specs.runner_steps.specs.After.{after_by, stepped}
 use Rattle.machine_states.proofs.Steps.{some_same, asked_fits}
 use Rattle.machine_invariant.specs.After.{AreAllowed}
-use Rattle.machine_states.proofs.Blockless.{private_load_ask, ask_by, line_ask, unblocked}
+use Rattle.machine_states.specs.runner_steps.specs.Outside.{private_load_ask}
+use Rattle.machine_states.specs.runner_steps.specs.Asks.{ask_by, line_ask}
 use Rattle.version_words.specs.declared.view.View.{View}
 use Rattle.runner_block.specs.declared.place.RunPlace.{RunPlace}
 use Rattle.runner_block.specs.declared.block.Block.{Block}
@@ -56,33 +58,40 @@ use Rattle.version_words.proofs.Bounds.{node_once}
 use Rattle.version_words.proofs.Keeps.{KeepsPart, beside, no_epoch, was_part, then_kept}
 use Rattle.version_words.proofs.Epochs.{goes_epoch}
 use Rattle.version_words.proofs.Inside.{is_ender, HasOpenRun, PlacesRun, both_true, goes_inside, places, same_place, step_is}
-use Rattle.version_words.proofs.Privates.{IsPrivate, IsOpenFor, Stands, of_cell, of_word, is_there, open_inside, word_stands}
+use Rattle.version_words.proofs.Privates.{IsPrivate, IsOpenFor, Stands, spot_by, of_cell, of_word, of_block, is_there, open_inside, word_stands}
 
 not_past : (slot n : ℕ) → nat_lt slot n ≡ true → n ≤ slot → ⊥
 not_past slot n e past = grind (arith, nat_tests, e, past)
 
 -- a descriptor's word, by the number that it has among all slots
-pub descriptor_there : (m : Meaning) (l : Layout) (d word : ℕ) → private_spot m l (slot_count l m.fixed_slots + d) word ≡ descriptor_spot d word
-descriptor_there m l d word =
+pub before_blocks : (m : Meaning) (l : Layout) (d : ℕ) → d < descriptor_count l → nat_lt (slot_count l m.fixed_slots + d) (blocks_from m l) ≡ true
+before_blocks m l d few = less_tested (slot_count l m.fixed_slots + d) (blocks_from m l) (omega (arith, few))
+
+pub descriptor_there : (m : Meaning) (l : Layout) (d word : ℕ) → d < descriptor_count l → private_spot m l (slot_count l m.fixed_slots + d) word ≡ descriptor_spot d word
+descriptor_there m l d word few =
     let slots = slot_count l m.fixed_slots in
     let beyond = not_node (slots + d) slots (omega arith) in
+    let before = before_blocks m l d few in
     let own : slots + d - slots ≡ d = omega arith in
-    (λ i. if beyond i then spots.Cell (cell_of m.fixed_cells (slots + d) word) else descriptor_spot (own i) word)
+    (λ i. spot_by m l [] (slots + d) word (beyond i) (before i)) ∙ ap (λ n. descriptor_spot n word) own
 
 -- a private load outside a run
-load_chosen : (m : Meaning) (l : Layout) (slot word : ℕ) (p : PartState) (x : Spot × Access) (b : Bool) → nat_lt slot (slot_count l m.fixed_slots) ≡ b
+load_chosen : (m : Meaning) (l : Layout) (slot word : ℕ) (p : PartState) (x : Spot × Access) (b b' : Bool) → nat_lt slot (slot_count l m.fixed_slots) ≡ b → nat_lt slot (blocks_from m l) ≡ b'
     → (if b then when (is_resting p.stage p.run && (nat_lt word 5 && (has p.nodes.free slot || has p.nodes.hand slot))) (spots.Cell (cell_of m.fixed_cells slot word)) Loads
-    else when (is_resting p.stage p.run && has p.descriptors.free (slot - slot_count l m.fixed_slots)) (descriptor_spot (slot - slot_count l m.fixed_slots) word) Loads) ≡ Some x
+    else (if b' then when (is_resting p.stage p.run && has p.descriptors.free (slot - slot_count l m.fixed_slots)) (descriptor_spot (slot - slot_count l m.fixed_slots) word) Loads
+    else when (is_resting p.stage p.run && has p.blocks.free (slot - blocks_from m l)) (block_spot (slot - blocks_from m l) word) Loads)) ≡ Some x
     → IsPrivate m l slot word Loads x
-load_chosen m l slot word p x true e h =
+load_chosen m l slot word p x true b' e e' h =
     let t = tested (is_resting p.stage p.run && (nat_lt word 5 && (has p.nodes.free slot || has p.nodes.hand slot))) (spots.Cell (cell_of m.fixed_cells slot word)) Loads x h in
     of_cell m l slot word Loads x e (both_true (nat_lt word 5) _ (both_true (is_resting p.stage p.run) _ t.0).1).0 t.1
-load_chosen m l slot word p x false e h =
+load_chosen m l slot word p x false true e e' h =
     let t = tested (is_resting p.stage p.run && has p.descriptors.free (slot - slot_count l m.fixed_slots)) (descriptor_spot (slot - slot_count l m.fixed_slots) word) Loads x h in
-    of_word m l slot word Loads x e t.1
+    of_word m l slot word Loads x e e' t.1
+load_chosen m l slot word p x false false e e' h =
+    of_block m l slot word Loads x e e' (tested (is_resting p.stage p.run && has p.blocks.free (slot - blocks_from m l)) (block_spot (slot - blocks_from m l) word) Loads x h).1
 
 load_outside : (m : Meaning) (l : Layout) (slot word : ℕ) (p : PartState) (x : Spot × Access) → private_load_ask m l slot word p ≡ Some x → IsPrivate m l slot word Loads x
-load_outside m l slot word p x e = load_chosen m l slot word p x (nat_lt slot (slot_count l m.fixed_slots)) refl e
+load_outside m l slot word p x e = load_chosen m l slot word p x (nat_lt slot (slot_count l m.fixed_slots)) (nat_lt slot (blocks_from m l)) refl refl e
 
 load_inside : (m : Meaning) (l : Layout) (slot word : ℕ) (free : List ℕ) (q : RunState) (micro : Micro) (x : Spot × Access) → fill_load_ask m l slot word free q micro ≡ Some x
     → IsPrivate m l slot word Loads x × (is_slot (make_slot q.made free) slot ≡ true) × (nat_lt slot (slot_count l m.fixed_slots) ≡ true)
@@ -100,7 +109,7 @@ module _ (m : Meaning) (l : Layout) (rs : List Request) (r : ℕ) (slot word : �
       ((load_inside m l slot word p.nodes.free q (next_of m q) x h.1).0, inr (record { open_run = record { run = q; there = run; ready = h.0 }; asks_so = h.1 }))
 
   load_asked : asks m l rs r (kinds.PrivateLoad slot word) p ≡ Some x → IsPrivate m l slot word Loads x × Stands m l (kinds.PrivateLoad slot word) p x
-  load_asked e = load_by p.run refl (unless_gone (sizes_for m l rs) p.gone (ask_by m l rs r (kinds.PrivateLoad slot word) p p.run) x (unblocked m l rs r (kinds.PrivateLoad slot word) p x e))
+  load_asked e = load_by p.run refl (unless_gone (sizes_for m l rs) p.gone (ask_by m l rs r (kinds.PrivateLoad slot word) p p.run) x e)
 
 module _ {T : Type 0} (m : Meaning) (t : TableState T) (r : RunnerState T) (own : IsOf t r) (slot word : ℕ) (enabled : IsEnabled m (kinds.PrivateLoad slot word) r) where
   asked : IsPrivate m r.layout slot word Loads enabled.met × Stands m r.layout (kinds.PrivateLoad slot word) r.part enabled.met
@@ -162,7 +171,7 @@ taken_free (Some s) free slot e h = absurd (true≢false e)
 
 -- a run whose next step leaves all but its number to go by
 pub goes_on_part : (m : Meaning) (l : Layout) (k : EventKind) (kept : Block) (epoch : ℕ) (p : PartState) (h : HasOpenRun p) (x : Spot × Access) (found : ℕ) → KeepsPart m kept p → is_ender k ≡ false
-    → line_ask m l k p.nodes.free h.run (next_of m h.run) ≡ Some x → HasEpoch m epoch (Some (goes_on m l h.run found))
+    → line_ask m l k p.nodes.free p.blocks.free h.run (next_of m h.run) ≡ Some x → HasEpoch m epoch (Some (goes_on m l h.run found))
     → KeepsPart m (record kept { place = record (kept.place) { epoch = epoch } }) (record p { run = Some (goes_on m l h.run found) })
 goes_on_part m l k kept epoch p h x found was n asked has_epoch =
     let q = h.run in let is = was.place.run q h.there in
@@ -244,7 +253,7 @@ module _ (m : Meaning) (l : Layout) (slot word found : ℕ) (kept : Block) (p : 
             in_hand = λ y s e made. subst (λ (n : ℕ). has (p.nodes.hand ++ slot ∷ []) n ≡ true) (some_same slot s (sym (run y e).1 ∙ made)) (has_pushed p.nodes.hand slot);
           };
           run = record { ending = λ y e ready closed. absurd (goes_inside m l kept p q k x was h.open_run.there h.open_run.ready refl h.asks_so closed) };
-          epoch = goes_epoch m l p.nodes.free q k x refl h.asks_so h.open_run.ready kept.place.epoch q' q.trail refl refl;
+          epoch = goes_epoch m l p.nodes.free p.blocks.free q k x refl h.asks_so h.open_run.ready kept.place.epoch q' q.trail refl refl;
         }
 
     filling_part : (o : Option ℕ) (b : Bool) → q.made ≡ o → kept.place.making ≡ b → KeepsPart m (block_filling kept slot b) (fill_loaded m l slot p q o found)
@@ -252,7 +261,7 @@ module _ (m : Meaning) (l : Layout) (slot word found : ℕ) (kept : Block) (p : 
     filling_part None true made e = absurd (true≢false (sym e ∙ (placed.making ∙ ap is_some made)))
     filling_part (Some s) false made e = absurd (true≢false (sym (sym e ∙ (placed.making ∙ ap is_some made))))
     filling_part (Some s) true made e = goes_on_part m l k kept kept.place.epoch p h.open_run x found was refl h.asks_so
-        (goes_epoch m l p.nodes.free q k x refl h.asks_so h.open_run.ready kept.place.epoch (goes_on m l q found) q.trail refl refl)
+        (goes_epoch m l p.nodes.free p.blocks.free q k x refl h.asks_so h.open_run.ready kept.place.epoch (goes_on m l q found) q.trail refl refl)
 
     in_run_by : (b : Bool) → kept.place.inside ≡ b
         → KeepsPart m (if b then block_filling kept slot kept.place.making else block_found l kept slot word found (nat_lt slot kept.lists.room)) (fill_loaded m l slot p q q.made found)

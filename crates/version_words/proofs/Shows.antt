@@ -1,5 +1,5 @@
 -- What is shown of a step.
-use Rattle.std.proofs.Common.{◌≡◌, ℕ, false, ap, sym, ◌∙◌, List}
+use Rattle.std.proofs.Common.{◌≡◌, ℕ, true, false, ap, sym, ◌∙◌, List}
 use Rattle.machine_states.specs.map_history.specs.declared.op.Request.{Request}
 use Rattle.machine_states.specs.table_words.specs.declared.layout.Layout.{Layout}
 use Rattle.machine_states.specs.table_words.specs.declared.spot.Spot.{Spot}
@@ -15,6 +15,10 @@ module _ (m : Meaning) (l : Layout) (rs : List Request) (r : ℕ) (kind : EventK
   -- the state after the step alone
   pub seen_then : ReachedWith m l rs r new met.0 (written met.1 found)
   seen_then = record { world = shown.world; reached = shown.reached; own = shown.own; word = shown.word }
+
+  -- the state before the step alone, where it is told what it found
+  pub seen_before : is_told met.1 ≡ true → ReachedWith m l rs r old met.0 found
+  seen_before told = record { world = shown.before; reached = shown.was_reached; own = shown.was_own; word = shown.was_found told }
 
   -- a plain store isn't told what it found, so it may be any number
   pub blind_shown : (number : ℕ) → met.1 ≡ Stores number → (other : ℕ) → ReachedBy m l rs r kind old new met other

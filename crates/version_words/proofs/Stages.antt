@@ -6,7 +6,7 @@ use Rattle.std.specs.Prelude.{◌==◌, ◌&&◌, ◌||◌, is_some, nat_lt, nat
 use Rattle.std.proofs.lemmas.Bool.Decides.{nat_tests}
 use mathlib.Core.Logic.{dite}
 use native.Mathlib.Decide.{ℕ_discrete}
-use Rattle.machine_states.proofs.Blockless.{ask_by, outside_ask, blocked}
+use Rattle.machine_states.specs.runner_steps.specs.Asks.{ask_by, outside_ask}
 use Rattle.version_words.specs.Shown.{left_part}
 use Rattle.machine_states.specs.table_words.specs.declared.layout.Layout.{Layout}
 use Rattle.machine_states.specs.table_words.specs.declared.sizes.Sizes.{Sizes}
@@ -18,6 +18,7 @@ use Rattle.machine_states.specs.table_words.specs.Places.{Fits, part_words, desc
 use Rattle.machine_states.specs.table_words.proofs.Seen.{fits_is}
 use Rattle.machine_states.specs.structure_laws.specs.Meaning.{Meaning}
 use Rattle.machine_states.specs.epoch_core.specs.Moves.{is_clear}
+use Rattle.machine_states.specs.epoch_core.specs.small_lemmas.proofs.Numbers.{less_tested}
 use Rattle.machine_states.specs.runner_parts.specs.declared.event.EventKind.{EventKind}
 use Rattle.machine_states.specs.runner_parts.specs.declared.event.EventKind.TheVariants as kinds
 use Rattle.machine_states.specs.epoch_core.specs.declared.stage.Stage.{Stage}
@@ -27,7 +28,7 @@ use Rattle.machine_states.specs.runner_parts.specs.Tests.{has, is_walking, is_re
 use Rattle.machine_states.specs.runner_parts.specs.State.{RunState, PartState}
 use Rattle.machine_states.specs.runner_steps.specs.Guards.{is_numbered, load_guard_by}
 use Rattle.machine_states.specs.guard_core.specs.State.{word_of}
-use Rattle.machine_states.specs.runner_steps.specs.Outside.{Ask, when, enter_load_ask, announce_ask, enter_again_by, scan_one_ask, advance_ask, descriptor_spot}
+use Rattle.machine_states.specs.runner_steps.specs.Outside.{Ask, when, enter_load_ask, announce_ask, enter_again_by, scan_one_ask, advance_ask, descriptor_spot, block_spot, blocks_from}
 use Rattle.machine_states.specs.epoch_core.specs.State.{last_epoch}
 use Rattle.machine_states.specs.runner_steps.specs.Asks.{fitting, sizes_for}
 use Rattle.machine_states.specs.runner_steps.specs.AfterOutside.{with_stage, collected, scanned, scan_one_after, advance_after}
@@ -45,8 +46,8 @@ fitted_some s a x e h = ap (fitting s) e ∙ ap (λ (b : Bool). if b then Some x
 module _ {T : Type 0} (m : Meaning) (r : RunnerState T) where
   -- a runner in no run may make what its stage lets it make
   asked_is : (k : EventKind) (x : Spot × Access) → r.part.gone ≡ false → r.part.run ≡ None → outside_ask m r.layout r.requests r.number k r.part ≡ Some x → Fits (sizes_for m r.layout r.requests) x.0 → met_by m r k ≡ Some x
-  asked_is k x present resting e h = blocked m r.layout r.requests r.number k r.part x (ap (λ (g : Bool). if g then None else fitting (sizes_for m r.layout r.requests) (ask_by m r.layout r.requests r.number k r.part r.part.run)) present
-      ∙ fitted_some (sizes_for m r.layout r.requests) _ x (ap (ask_by m r.layout r.requests r.number k r.part) resting ∙ e) h)
+  asked_is k x present resting e h = ap (λ (g : Bool). if g then None else fitting (sizes_for m r.layout r.requests) (ask_by m r.layout r.requests r.number k r.part r.part.run)) present
+      ∙ fitted_some (sizes_for m r.layout r.requests) _ x (ap (ask_by m r.layout r.requests r.number k r.part) resting ∙ e) h
 
   pub enabled : (k : EventKind) (x : Spot × Access) → r.part.gone ≡ false → r.part.run ≡ None → outside_ask m r.layout r.requests r.number k r.part ≡ Some x → Fits (sizes_for m r.layout r.requests) x.0 → IsEnabled m k r
   enabled k x present resting e h = record { met = x; asked = asked_is k x present resting e h }
@@ -322,17 +323,31 @@ module _ {T : Type 0} (m : Meaning) (r : RunnerState T) (stage : Stage) (section
   may_own : is_resting r.part.stage r.part.run && has r.part.descriptors.free d ≡ true
   may_own = (λ i. is_resting (is.at i) (is.resting i) && free.own i) ∙ ap (λ (b : Bool). b && true) rests
 
+  before : nat_lt (slots + d) (blocks_from m r.layout) ≡ true
+  before = less_tested (slots + d) (blocks_from m r.layout) (let low = free.few in omega (arith, low))
+
+  -- what would be asked of a block
+  abbrev block_stored_if : ℕ → Ask
+  block_stored_if number = when (is_resting r.part.stage r.part.run && (has r.part.blocks.free (slots + d - blocks_from m r.layout) && number == 0)) (block_spot (slots + d - blocks_from m r.layout) word) (Stores number)
+
+  abbrev loaded_behind : Bool → Ask
+  loaded_behind b = if b then when (is_resting r.part.stage r.part.run && has r.part.descriptors.free (slots + d - slots)) (descriptor_spot (slots + d - slots) word) Loads
+      else when (is_resting r.part.stage r.part.run && has r.part.blocks.free (slots + d - blocks_from m r.layout)) (block_spot (slots + d - blocks_from m r.layout) word) Loads
+
   pub may_store_word : (number : ℕ) → IsEnabled m (kinds.PrivateStore (slots + d) word number) r
   may_store_word number = enabled m r (kinds.PrivateStore (slots + d) word number) (descriptor_spot d word, Stores number) is.present is.resting
-      (ap (λ (n : ℕ). when (nat_le slots (slots + d) && (is_resting r.part.stage r.part.run && has r.part.descriptors.free n)) (descriptor_spot n word) (Stores number)) (own_word slots d)
+      (ap (λ (b : Bool). if b then when (nat_le slots (slots + d) && (is_resting r.part.stage r.part.run && has r.part.descriptors.free (slots + d - slots))) (descriptor_spot (slots + d - slots) word) (Stores number)
+      else block_stored_if number) before
+      ∙ ap (λ (n : ℕ). when (nat_le slots (slots + d) && (is_resting r.part.stage r.part.run && has r.part.descriptors.free n)) (descriptor_spot n word) (Stores number)) (own_word slots d)
       ∙ ap (λ (b : Bool). when b (descriptor_spot d word) (Stores number))
       (ap (λ (b : Bool). nat_le slots (slots + d) && b) may_own ∙ (let e : nat_le slots (slots + d) && true ≡ true = grind (arith, nat_tests) in e))) word_fits
 
   pub may_load_word : IsEnabled m (kinds.PrivateLoad (slots + d) word) r
   may_load_word = enabled m r (kinds.PrivateLoad (slots + d) word) (descriptor_spot d word, Loads) is.present is.resting
       (ap (λ (b : Bool). if b then when (is_resting r.part.stage r.part.run && (nat_lt word 5 && (has r.part.nodes.free (slots + d) || has r.part.nodes.hand (slots + d)))) (spots.Cell (cell_of m.fixed_cells (slots + d) word)) Loads
-      else when (is_resting r.part.stage r.part.run && has r.part.descriptors.free (slots + d - slots)) (descriptor_spot (slots + d - slots) word) Loads) (let past : nat_lt (slots + d) slots ≡ false = grind (arith, nat_tests) in past)
-      ∙ (ap (λ (n : ℕ). when (is_resting r.part.stage r.part.run && has r.part.descriptors.free n) (descriptor_spot n word) Loads) (own_word slots d)
+      else loaded_behind (nat_lt (slots + d) (blocks_from m r.layout))) (let past : nat_lt (slots + d) slots ≡ false = grind (arith, nat_tests) in past)
+      ∙ (ap loaded_behind before
+      ∙ ap (λ (n : ℕ). when (is_resting r.part.stage r.part.run && has r.part.descriptors.free n) (descriptor_spot n word) Loads) (own_word slots d)
       ∙ ap (λ (b : Bool). when b (descriptor_spot d word) Loads) may_own)) word_fits
 
 -- and is where it was then, with the same free descriptors

@@ -12,6 +12,7 @@ use Rattle.machine_states.specs.table_words.specs.Places.{size, slot_count, Fits
 use Rattle.machine_states.specs.table_words.specs.Seen.{seen}
 use Rattle.machine_states.specs.structure_laws.specs.Meaning.{Meaning}
 use Rattle.machine_states.specs.runner_parts.specs.State.{PartState}
+use Rattle.machine_states.specs.runner_steps.specs.Outside.{blocks_from}
 use Rattle.machine_states.specs.runner_steps.specs.Asks.{sizes_for}
 use Rattle.machine_states.specs.World.{World}
 use Rattle.machine_states.specs.First.{keeper_part}
@@ -113,6 +114,7 @@ pub record IsBuilt {T : Type 0} (m : Meaning) (id : TableId) (key built : Setup 
   pub as_sized : built.sizes ≡ sizes_for m built.layout built.requests.items
   pub node_slots : built.node_slots ≡ slot_count built.layout m.fixed_slots
   pub first_cell : built.first_cell ≡ m.fixed_cells
+  pub first_block : built.first_block ≡ blocks_from m built.layout
   pub words : id.words ≡ size built.sizes
   pub no_slots : id.slots ≡ 0
   pub limits : IsWithinLimits built.layout

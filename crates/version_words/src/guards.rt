@@ -34,6 +34,7 @@ impl<S: Structure> FlockTable<S> {
         let spot = Spot::Guard(runner.number);
         let word = guard_word(descriptor);
         self.store::<plays::Guard>(&mut runner.seat, spot, word);
+        runner.kept.lists.guard(descriptor);
         runner
     }
 

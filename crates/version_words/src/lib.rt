@@ -1,9 +1,9 @@
 //! The machine's words, shared by threads.
 //!
 //! `table` has the table and its private steps, `seats` how runners are made and joined and how a table begins and
-//! ends, `entry`, `scan`, `guards` and `board` step calls, `runner` a seat with what its thread keeps (`kept`), and
-//! `words` what is left of a closed table. `rule` is what holds between any two steps, `view` what a seat knows,
-//! `plays` what a step tells it, and `laws` what the types say, as contracts.
+//! ends, `entry`, `scan`, `guards` and `board` step calls, `log_words` where a run's log goes on, `runner` a seat with
+//! what its thread keeps (`kept`), and `words` what is left of a closed table. `rule` is what holds between any two
+//! steps, `view` what a seat knows, `plays` what a step tells it, and `laws` what the types say, as contracts.
 #![tactic(auto)]
 
 mod bases;
@@ -12,6 +12,7 @@ mod entry;
 mod guards;
 mod hold;
 mod laws;
+mod log_words;
 mod makes;
 mod opening;
 mod plays;

@@ -248,6 +248,16 @@ impl Named for MakeCommit {
     ghost naming = { λ m layout requests part step. kinds.MakeCommit };
 }
 
+/// The block is read off the link that is to come.
+pub struct LinkCommit;
+
+impl Named for LinkCommit {
+    ghost use Rattle.std.specs.Prelude.{◌-◌};
+    ghost use Rattle.machine_states.specs.runner_parts.specs.declared.event.EventKind.TheVariants as kinds;
+
+    ghost naming = { λ m layout requests part step. kinds.LinkCommit (step.second - 1) };
+}
+
 pub struct RetireCommit;
 
 impl Named for RetireCommit {

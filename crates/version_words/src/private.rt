@@ -1,7 +1,8 @@
 //! Steps on the words of own slots.
-ghost use Rattle.std.specs.Prelude.{◌≡◌, ◌+◌, ℕ};
-ghost use Rattle.machine_states.specs.table_words.specs.Places.{slot_count};
+ghost use Rattle.std.specs.Prelude.{◌≡◌, ◌<◌, ◌+◌, ℕ};
+ghost use Rattle.machine_states.specs.table_words.specs.Places.{slot_count, descriptor_count};
 ghost use Rattle.machine_states.specs.runner_parts.specs.declared.event.EventKind.TheVariants as kinds;
+ghost use Rattle.machine_states.specs.runner_steps.specs.Outside.{blocks_from};
 ghost use Rattle.version_words.specs.Private.{IsWithin, private_spot};
 ghost use Rattle.version_words.specs.TableState.{IsOf};
 ghost use Rattle.version_words.specs.Events.{IsEnabled, Makes, start_of};
@@ -9,12 +10,12 @@ ghost use Rattle.version_words.specs.Events.{IsEnabled, Makes, start_of};
 use crate::plays;
 use crate::runner::Runner;
 use crate::table::FlockTable;
-use machine_states::runner_steps::descriptor_spot;
+use machine_states::runner_steps::{block_spot, descriptor_spot};
 use machine_states::structure_laws::Structure;
 use machine_states::table_words::Spot;
 
 impl<S: Structure> FlockTable<S> {
-    /// A word of a slot: a cell of a node slot, or a word of a descriptor.
+    /// A word of a slot: a cell of a node slot, or a word of a descriptor or of a block.
     #[inline(always)]
     fn private_spot(&self, slot: u32, word: u32) -> Spot
         requires { IsWithin (S.meaning self.now.structure) self.now.layout slot word }
@@ -23,13 +24,16 @@ impl<S: Structure> FlockTable<S> {
         let slots = self.setup.node_slots;
         if slot < slots {
             Spot::Cell(self.setup.first_cell + 5 * slot + word)
-        } else {
+        } else if slot < self.setup.first_block {
             descriptor_spot(slot - slots, word)
+        } else {
+            block_spot(slot - self.setup.first_block, word)
         }
     }
 
     /// A word of an own slot: a cell of an own free node slot or of one in the hand, a word of an own free descriptor,
-    /// or in a run the cell of the node slot that a Make fills. Descriptors are numbered after the node slots.
+    /// a word of an own free block, or in a run the cell of the node slot that a Make fills. Descriptors are numbered
+    /// after the node slots, and blocks after the descriptors.
     #[inline(always)]
     pub fn private_load(&self, mut runner: Runner<S>, slot: u32, word: u32) -> (Runner<S>, u64)
         requires own { IsOf self.now runner }
@@ -46,8 +50,9 @@ impl<S: Structure> FlockTable<S> {
         (runner, found)
     }
 
-    /// A word of an own free descriptor, or in a run the cell of the node slot that a Make fills, becomes this number.
-    /// Descriptors are numbered after the node slots.
+    /// A word of an own free descriptor, or in a run the cell of the node slot that a Make fills, becomes this number;
+    /// a word of an own free block, or in a run of the block that is to be linked, becomes 0. Descriptors are numbered
+    /// after the node slots, and blocks after the descriptors.
     #[inline(always)]
     pub fn private_store(
         &self,
@@ -64,8 +69,28 @@ impl<S: Structure> FlockTable<S> {
     {
         let spot = self.private_spot(slot, word);
         self.store::<plays::PrivateStore>(&mut runner.seat, spot, number);
-        runner.kept.stored(self.setup.layout, number);
-        runner
+        if slot < self.setup.first_block {
+            runner.kept.stored(self.setup.layout, number);
+            runner
+        } else {
+            runner.kept.cleared(slot - self.setup.first_block);
+            runner
+        }
+    }
+
+    /// A word of an own free block, or in a run of the block that is to be linked, becomes 0, as `private_store` of the
+    /// slot that the block is numbered as.
+    pub fn empty_word(&self, runner: Runner<S>, block: u32, word: u32) -> Runner<S>
+        requires own { IsOf self.now runner }
+        requires next { let m = S.meaning self.now.structure in
+            IsEnabled m (kinds.PrivateStore (blocks_from m self.now.layout + block) word 0) runner }
+        ensures own { IsOf self.now result }
+        ensures event { let m = S.meaning self.now.structure in
+            (found : ℕ)
+            → Makes m (kinds.PrivateStore (blocks_from m self.now.layout + block) word 0) found runner result }
+    {
+        let slot = self.setup.first_block + block;
+        self.private_store(runner, slot, word, 0)
     }
 
     /// A word of an own free descriptor, whose words begin at this start, as `private_load` of the slot that the
@@ -79,6 +104,7 @@ impl<S: Structure> FlockTable<S> {
         word: u32,
     ) -> (Runner<S>, u64)
         requires own { IsOf self.now runner }
+        requires few { descriptor < descriptor_count self.now.layout }
         requires start { start ≡ start_of (S.meaning self.now.structure) self.now descriptor }
         requires next { let m = S.meaning self.now.structure in
             IsEnabled m (kinds.PrivateLoad (slot_count self.now.layout m.fixed_slots + descriptor) word) runner }
@@ -105,6 +131,7 @@ impl<S: Structure> FlockTable<S> {
         number: u64,
     ) -> Runner<S>
         requires own { IsOf self.now runner }
+        requires few { descriptor < descriptor_count self.now.layout }
         requires start { start ≡ start_of (S.meaning self.now.structure) self.now descriptor }
         requires next { let m = S.meaning self.now.structure in
             IsEnabled m

@@ -20,6 +20,8 @@ pub struct Setup<S: Structure> {
     pub node_slots: u32,
     /// The first cell of the node slots.
     pub first_cell: u32,
+    /// The number of the first block among all slots: behind the node slots and the descriptors.
+    pub first_block: u32,
 }
 
 /// The words and all views show a state of the machine that enabled events lead to.

@@ -5,10 +5,11 @@ ghost use Rattle.machine_states.specs.body_terms.specs.Run.{written_once};
 ghost use Rattle.machine_states.specs.table_words.specs.declared.spot.Spot.TheVariants as spots;
 ghost use Rattle.machine_states.specs.table_words.specs.declared.access.Access.TheVariants.{Loads, Exchanges};
 ghost use Rattle.machine_states.specs.runner_parts.specs.declared.event.EventKind.TheVariants as kinds;
-ghost use Rattle.version_words.specs.Place.{next_log, own_done, own_stamp, own_reply, held_by_run};
+ghost use Rattle.version_words.specs.Place.{next_log, KnowsPart, own_done, own_stamp, own_reply, held_by_run};
 ghost use Rattle.version_words.specs.TableState.{IsOf};
 ghost use Rattle.version_words.specs.Events.{met_by, IsMade, Leaves, Commits};
 
+use crate::log_words::next_spot;
 use crate::plays;
 use crate::runner::Runner;
 use crate::table::FlockTable;
@@ -24,11 +25,12 @@ impl<S: Structure> FlockTable<S> {
         requires own { IsOf self.now runner }
         requires next { met_by (S.meaning self.now.structure) runner kinds.Commit ≡ Some
             (next_log runner.part.run, Exchanges 0 word) }
+        requires linked { KnowsPart runner.part.run }
         ensures own { IsOf self.now result.0 }
         ensures event { Commits (S.meaning self.now.structure) kinds.Commit result.1 result.2 runner result.0 }
     {
         let place = runner.kept.place;
-        let spot = Spot::LogWord(place.descriptor, place.agreed);
+        let spot = next_spot(&*runner.kept);
         let found = self.exchange::<plays::Commit>(&mut runner.seat, spot, 0, word);
         runner.kept.place.agreed = place.agreed + 1;
         (runner, agreed_on(found, word), found == 0)
@@ -39,11 +41,12 @@ impl<S: Structure> FlockTable<S> {
         requires own { IsOf self.now runner }
         requires next { met_by (S.meaning self.now.structure) runner kinds.OutcomeCommit ≡ Some
             (next_log runner.part.run, Exchanges 0 word) }
+        requires linked { KnowsPart runner.part.run }
         ensures own { IsOf self.now result.0 }
         ensures event { Leaves (S.meaning self.now.structure) kinds.OutcomeCommit result.1 runner result.0 }
     {
         let place = runner.kept.place;
-        let spot = Spot::LogWord(place.descriptor, place.agreed);
+        let spot = next_spot(&*runner.kept);
         let found = self.exchange::<plays::OutcomeCommit>(&mut runner.seat, spot, 0, word.bits());
         runner.kept.place.agreed = place.agreed + 1;
         (runner, Word::from_bits(agreed_on(found, word.bits())))

@@ -1,6 +1,9 @@
 //! A seat with what its thread keeps.
-ghost use Rattle.std.specs.Prelude.{◌≡◌, ◌<◌, ◌^◌, length, Some};
+ghost use Rattle.std.specs.Prelude.{◌≡◌, ◌+◌, ◌*◌, ◌<◌, ◌^◌, nat_le, length, Some};
+ghost use Rattle.machine_states.specs.table_words.specs.Places.{part_words};
 ghost use Rattle.machine_states.specs.runner_parts.specs.State.{RunState};
+ghost use Rattle.machine_states.specs.runner_steps.specs.InRun.{make_slot};
+ghost use Rattle.machine_states.specs.runner_steps.specs.Sections.{is_beyond};
 ghost use Rattle.version_words.specs.RunnerState.{entered_of};
 ghost use Rattle.runner_block.specs.Marks.{lost_links};
 
@@ -9,6 +12,7 @@ use atomic_table::Seat;
 use machine_states::body_terms::Thunk;
 use machine_states::epoch_core::Stage;
 use machine_states::structure_laws::Structure;
+use machine_states::table_words::PART_WORDS;
 use runner_block::{Block, RunRoom};
 use std::alloc::Global;
 use std::marker::Model;
@@ -39,6 +43,15 @@ impl<S: Structure> Model for Runner<S> {
     } };
 
     ghost invariant = { λ a. IsKept S.meaning a.number a.kept.value a.seat.me };
+}
+
+/// Whether this word of a log stands behind the part that begins at this one. Most logs have one part: they ask for no
+/// more than the word.
+#[inline(always)]
+fn is_behind(word: u32, start: u32) -> bool
+    ensures { result ≡ nat_le (start + part_words) word }
+{
+    word as usize >= PART_WORDS && start as usize + PART_WORDS <= word as usize
 }
 
 impl<S: Structure> Runner<S> {
@@ -98,6 +111,53 @@ impl<S: Structure> Runner<S> {
         ensures { result ≡ length self.now.part.descriptors.limbo }
     {
         self.kept.lists.limbo_descriptors()
+    }
+
+    pub fn free_blocks(&self) -> &[u32]
+        ensures list { result.now ≡ self.now.part.blocks.free }
+        ensures few { length result.now < 2 ^ 32 }
+    {
+        self.kept.lists.free_blocks()
+    }
+
+    pub fn limbo_blocks(&self) -> u32
+        ensures { result ≡ length self.now.part.blocks.limbo }
+    {
+        self.kept.lists.limbo_blocks()
+    }
+
+    /// The place in the log at which the last part begins that the run in progress knows. The runner has to be in a run.
+    pub fn part_start(&self) -> u32
+        requires { (q : RunState) × (self.now.part.run ≡ Some q) }
+        ensures { (q : RunState) → self.now.part.run ≡ Some q → result ≡ part_words * length q.links }
+    {
+        self.kept.lists.part_start()
+    }
+
+    /// The block that the run in progress empties to link it next: the one in its hand, or else the last free one.
+    pub fn next_block(&self) -> Option<u32>
+        requires { (q : RunState) × (self.now.part.run ≡ Some q) }
+        ensures { (q : RunState) → self.now.part.run ≡ Some q → result ≡ make_slot q.block self.now.part.blocks.free }
+    {
+        self.kept.lists.next_block()
+    }
+
+    /// How many words of that block the run has made 0.
+    pub fn emptied(&self) -> u32
+        requires { (q : RunState) × (self.now.part.run ≡ Some q) }
+        ensures { (q : RunState) → self.now.part.run ≡ Some q → result ≡ q.emptied }
+    {
+        self.kept.lists.emptied()
+    }
+
+    /// Whether the next word of the log of the run in progress stands behind the last part that it knows, so that it links
+    /// a block before it commits that word. The runner has to be in a run.
+    #[inline(always)]
+    pub fn is_link_due(&self) -> bool
+        requires { (q : RunState) × (self.now.part.run ≡ Some q) }
+        ensures { (q : RunState) → self.now.part.run ≡ Some q → result ≡ is_beyond q (Some (length q.trail)) }
+    {
+        is_behind(self.kept.place.agreed, self.kept.lists.part_start())
     }
 
     pub fn worn(&self) -> u32

@@ -1,9 +1,10 @@
 //! Steps of a run on words that runners share, and loads of cells.
-ghost use Rattle.std.specs.Prelude.{◌≡◌, ◌<◌, Some, Bool};
+ghost use Rattle.std.specs.Prelude.{◌≡◌, ◌<◌, Some, Bool, true, false};
 ghost use Rattle.machine_states.specs.table_words.specs.declared.spot.Spot.TheVariants as spots;
 ghost use Rattle.machine_states.specs.table_words.specs.declared.access.Access.TheVariants.{Loads, Exchanges, Raises};
 ghost use Rattle.machine_states.specs.runner_parts.specs.declared.event.EventKind.TheVariants as kinds;
 ghost use Rattle.version_words.specs.Naming.{load_of};
+ghost use Rattle.version_words.specs.Kept.{IsUnseen, IsSeen};
 ghost use Rattle.version_words.specs.TableState.{IsOf};
 ghost use Rattle.version_words.specs.Events.{met_by, IsEnabled, Makes, IsMade};
 
@@ -13,8 +14,19 @@ use crate::table::FlockTable;
 use machine_states::body_terms::{Place, Word};
 use machine_states::structure_laws::Structure;
 use machine_states::table_words::Spot;
+use runner_block::Block;
 
 impl<S: Structure> FlockTable<S> {
+    /// Whether this word of a cell makes a runner sure of a descriptor under which blocks may lie in its limbo.
+    #[inline(always)]
+    fn makes_sure(&self, kept: &Block, place: Place, word: u64) -> bool
+        ensures none { result ≡ false → kept.now.place.inside ≡ false
+            → IsUnseen (S.meaning self.now.structure) kept.now place word }
+        ensures some { result ≡ true → IsSeen (S.meaning self.now.structure) kept.now place word }
+    {
+        kept.awaits(word) && self.setup.structure.is_lock(place)
+    }
+
     /// The word of this cell: outside a run one that the runner may read, in a run the one that comes next.
     pub fn load_cell(&self, mut runner: Runner<S>, place: Place) -> (Runner<S>, Word)
         requires own { IsOf self.now runner }
@@ -24,6 +36,8 @@ impl<S: Structure> FlockTable<S> {
         ensures event { Makes (S.meaning self.now.structure) (load_of runner.part.run place) result.1 runner result.0 }
     {
         let word = self.load::<plays::LoadCell>(&mut runner.seat, Spot::Cell(place));
+        let sure = self.makes_sure(&*runner.kept, place, word);
+        runner.kept.saw(sure, word);
         (runner, Word::from_bits(word))
     }
 

@@ -3,11 +3,13 @@ ghost use Rattle.std.specs.Prelude.{◌≡◌, ◌≤◌, ◌<◌, [], IfOk, IfE
 ghost use Rattle.machine_states.specs.map_history.specs.declared.op.Request.{Request};
 ghost use Rattle.machine_states.specs.map_history.specs.Requests.{AreInOrder};
 ghost use Rattle.machine_states.specs.table_words.specs.Limits.{IsWithinLimits};
-ghost use Rattle.machine_states.specs.table_words.specs.Places.{slot_count};
+ghost use Rattle.machine_states.specs.table_words.specs.Places.{slot_count, worker_blocks, keeper_blocks};
 ghost use Rattle.machine_states.specs.runner_parts.specs.declared.event.EventKind.TheVariants as kinds;
 ghost use Rattle.machine_states.specs.First.{keeper_part, worker_part};
 ghost use Rattle.runner_block.specs.Marks.{marks_of};
 ghost use Rattle.runner_block.specs.Places.{IsAtRest};
+ghost use Rattle.version_words.specs.RunnerState.{told_part};
+ghost use Rattle.version_words.specs.Kept.{KeepsBlocks};
 ghost use Rattle.version_words.specs.TableState.{IsOf, IsNew, HasSmallValue, first_keeper, HasJoinedAll, IsClosing};
 ghost use Rattle.version_words.specs.Events.{IsEnabled, HasSplit, next_worker, joined_by};
 
@@ -20,7 +22,7 @@ use crate::words::Words;
 use atomic_table::Table;
 use machine_states::first_words;
 use machine_states::map_history::{Op, Request};
-use machine_states::runner_steps::{sizes_for, slot_count};
+use machine_states::runner_steps::{blocks_from, sizes_for, slot_count};
 use machine_states::structure_laws::Structure;
 use machine_states::table_words::Layout;
 use runner_block::{Block, Kept, RunPlace, Share};
@@ -44,15 +46,30 @@ fn boxed(alloc: Global, lists: Kept) -> Result<Box<Block, Global>, AllocError>
     Ok(Box::new(alloc, Block { lists, place })?)
 }
 
-/// The keeper's lists: its node slots and descriptors come after the workers'.
+/// How many blocks a worker has, and the keeper. As long as no body agrees on more words than a descriptor has room for,
+/// there are none.
+fn worker_blocks(_layout: Layout) -> u32
+    ensures { result ≡ worker_blocks _layout }
+{
+    0
+}
+
+fn keeper_blocks(_layout: Layout) -> u32
+    ensures { result ≡ keeper_blocks _layout }
+{
+    0
+}
+
+/// The keeper's lists: its node slots, descriptors and blocks come after the workers'.
 fn keeper_lists<S: Structure>(
     alloc: Global,
     structure: &S,
     layout: Layout,
 ) -> Result<Box<Block, Global>, AllocError>
     requires { IsWithinLimits layout }
-    ensures lists { IfOk result (λ b. b.value.lists.part ≡ keeper_part (S.meaning structure.now) layout) }
+    ensures lists { IfOk result (λ b. b.value.lists.part ≡ told_part (keeper_part (S.meaning structure.now) layout)) }
     ensures marks { IfOk result (λ b. b.value.lists.marks ≡ marks_of []) }
+    ensures blocks { IfOk result (λ b. KeepsBlocks b.value.lists (keeper_part (S.meaning structure.now) layout)) }
     ensures room { IfOk result (λ b. b.value.lists.room ≡ slot_count layout (S.meaning structure.now).fixed_slots) }
     ensures place { IfOk result (λ b. IsAtRest b.value.place) }
 {
@@ -67,7 +84,13 @@ fn keeper_lists<S: Structure>(
         count: workers,
         room: layout.sections * workers + workers,
     };
-    let lists = Kept::new(alloc, nodes, descriptors)?;
+    let lists = Kept::new(
+        alloc,
+        nodes,
+        descriptors,
+        worker_blocks(layout) * workers,
+        keeper_blocks(layout),
+    )?;
     boxed(alloc, lists)
 }
 
@@ -81,8 +104,10 @@ fn worker_lists<S: Structure>(
 ) -> Result<Box<Block, Global>, AllocError>
     requires limits { IsWithinLimits layout }
     requires worker { worker < layout.runners }
-    ensures lists { IfOk result (λ b. b.value.lists.part ≡ worker_part (S.meaning structure.now) layout worker) }
+    ensures lists { IfOk result
+        (λ b. b.value.lists.part ≡ told_part (worker_part (S.meaning structure.now) layout worker)) }
     ensures marks { IfOk result (λ b. b.value.lists.marks ≡ marks_of []) }
+    ensures blocks { IfOk result (λ b. KeepsBlocks b.value.lists (worker_part (S.meaning structure.now) layout worker)) }
     ensures room { IfOk result (λ b. b.value.lists.room ≡ slot_count layout (S.meaning structure.now).fixed_slots) }
     ensures place { IfOk result (λ b. IsAtRest b.value.place) }
 {
@@ -96,7 +121,13 @@ fn worker_lists<S: Structure>(
         count: layout.sections,
         room: layout.sections * layout.runners + layout.runners,
     };
-    let lists = Kept::new(alloc, nodes, descriptors)?;
+    let lists = Kept::new(
+        alloc,
+        nodes,
+        descriptors,
+        worker_blocks(layout) * worker,
+        worker_blocks(layout),
+    )?;
     boxed(alloc, lists)
 }
 
@@ -138,6 +169,7 @@ impl<S: Structure> FlockTable<S> {
         let words = first_words(alloc, &structure, sizes)?;
         let node_slots = slot_count(&structure, layout);
         let first_cell = structure.fixed_cells();
+        let first_block = blocks_from(&structure, layout);
         let kept = keeper_lists(alloc, &structure, layout)?;
         let requests = Vec::from_slice(alloc, requests)?;
         let setup = Setup {
@@ -147,6 +179,7 @@ impl<S: Structure> FlockTable<S> {
             sizes: Bases::of(sizes),
             node_slots,
             first_cell,
+            first_block,
         };
         let (table, seat) = Table::of_words(alloc, words.as_slice(), &setup)?;
         let keeper = Runner {

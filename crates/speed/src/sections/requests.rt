@@ -1,29 +1,36 @@
 //! A request's section, from the entry of its worker to the end.
 ghost use Rattle.std.specs.Prelude.{◌≡◌, ◌+◌, ◌<◌, ◌≤◌, length, IfSome, IfOk, IfErr};
+ghost use Rattle.runner_steps.specs.table_words.specs.Places.{attempt_blocks};
 ghost use Rattle.try_lock.specs.commit_log.specs.version_words.specs.TableState.{IsOf};
 ghost use Rattle.speed.specs.Scenes.{IsScene};
 ghost use Rattle.speed.specs.Workers.{IsBefore, HasRead, MayRun};
 
 use interleave_core::Tray;
 use runner_steps::body_terms::{Outcome, Steps, Thunk, Word};
+use runner_steps::table_words::ATTEMPT_BLOCKS;
 use try_lock::commit_log::version_words::{FlockTable, Runner};
 use try_lock::epoch_slots::{Kind, enter, exit, reserve};
 use try_lock::section_runs::RunEnd;
 use try_lock::section_runs::runner_gate::Free;
 use try_lock::{Section, publish, run_section};
 
-/// The worker, where two node slots and a descriptor are free; else the worker too.
+/// The worker, where two node slots, a descriptor and the blocks for two logs are free; else the worker too.
 fn with_reserve(worker: Runner<Tray>) -> Result<Runner<Tray>, Runner<Tray>>
     ensures same { IfOk result (λ x. x ≡ worker) }
     ensures nodes { IfOk result (λ x. 2 ≤ length x.part.nodes.free) }
     ensures descriptors { IfOk result (λ x. 1 ≤ length x.part.descriptors.free) }
+    ensures blocks { IfOk result (λ x. attempt_blocks ≤ length x.part.blocks.free) }
     ensures else_same { IfErr result (λ x. x ≡ worker) }
 {
     let worker = match reserve(worker, Kind::Node, 2) {
         Ok(worker) => worker,
         Err((worker, _)) => return Err(worker),
     };
-    match reserve(worker, Kind::Descriptor, 1) {
+    let worker = match reserve(worker, Kind::Descriptor, 1) {
+        Ok(worker) => worker,
+        Err((worker, _)) => return Err(worker),
+    };
+    match reserve(worker, Kind::Block, ATTEMPT_BLOCKS as u32) {
         Ok(worker) => Ok(worker),
         Err((worker, _)) => Err(worker),
     }
@@ -39,6 +46,7 @@ fn enter_and_read(
     requires before { IsBefore request worker }
     requires nodes { 2 ≤ length worker.part.nodes.free }
     requires descriptors { 1 ≤ length worker.part.descriptors.free }
+    requires blocks { attempt_blocks ≤ length worker.part.blocks.free }
     ensures own { IsOf table.now result.0 }
     ensures number { result.0.number ≡ 0 }
     ensures read { HasRead request result.1 result.0 }

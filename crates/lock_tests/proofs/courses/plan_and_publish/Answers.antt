@@ -1,7 +1,7 @@
 use Rattle.std.proofs.Common.{sym, subst, ◌∙◌}
 use Rattle.lock_tests.specs.Workers.{MayRun, MayRunFor}
 use Rattle.lock_tests.proofs.Offering.{may_run, may_run_for, same_section}
-use Rattle.lock_tests.proofs.Planned.{may_publish, planned_nodes, planned_hand, told}
+use Rattle.lock_tests.proofs.Planned.{may_publish, planned_nodes, planned_blocks, planned_hand, told}
 use Rattle.lock_tests.proofs.courses.plan_and_publish.Goals as goal
 
 pub publish-runner-requires-clause-publishable : goal.publish-runner-requires-clause-publishable
@@ -20,6 +20,7 @@ returns-in-Ok-clause-published g c = λ section same.
     (may_publish m c.args.runner c.enter-runner.result c.enter-runner.ensures.enters planning c.args.request.now c.plan-runner.result.0 c.in-Thunk.thunk _ _ _ _ _ _ so
     c.requires.due (c.enter-runner.ensures.own.layout ∙ sym c.requires.own.layout) (c.enter-runner.ensures.own.requests ∙ sym c.requires.own.requests))
     (planned_nodes m c.args.runner c.enter-runner.result c.enter-runner.ensures.enters planning c.args.request.now c.plan-runner.result.0 _ _ _ _ _ _ _ so c.requires.due)
+    (planned_blocks m c.args.runner c.enter-runner.result c.enter-runner.ensures.enters planning c.args.request.now c.plan-runner.result.0 _ _ _ _ _ _ _ so c.requires.due)
     (planned_hand m c.args.runner c.enter-runner.result c.enter-runner.ensures.enters planning c.args.request.now c.plan-runner.result.0 _ _ _ _ _ _ _ so c.requires.due)
     c.in-Ok.section c.in-Ok.is)
 
@@ -32,5 +33,6 @@ returns-in-Ok-clause-asked g c = λ section same.
     (may_publish m c.args.runner c.enter-runner.result c.enter-runner.ensures.enters planning c.args.request.now c.plan-runner.result.0 c.in-Thunk.thunk _ _ _ _ _ _ so
     c.requires.due (c.enter-runner.ensures.own.layout ∙ sym c.requires.own.layout) (c.enter-runner.ensures.own.requests ∙ sym c.requires.own.requests))
     (planned_nodes m c.args.runner c.enter-runner.result c.enter-runner.ensures.enters planning c.args.request.now c.plan-runner.result.0 _ _ _ _ _ _ _ so c.requires.due)
+    (planned_blocks m c.args.runner c.enter-runner.result c.enter-runner.ensures.enters planning c.args.request.now c.plan-runner.result.0 _ _ _ _ _ _ _ so c.requires.due)
     (planned_hand m c.args.runner c.enter-runner.result c.enter-runner.ensures.enters planning c.args.request.now c.plan-runner.result.0 _ _ _ _ _ _ _ so c.requires.due)
     c.in-Ok.section c.in-Ok.is c.args.request.now.number so.answers.request)

@@ -17,4 +17,4 @@ returns-in-Ok-clause-published c = λ section same.
     (may_run tray c.args.runner c.publish-runner.result.0 _ c.publish-runner.result.1 c.publish-runner.ensures.publishes
     (may_publish c.args.table.now c.args.runner (record { form = c.args.form; request = c.number.result; lock = 0; word = c.args.word; operands = _ }) c.requires.own c.requires.scene c.requires.worker c.requires.read c.number.ensures refl
     (sym c.value.ensures ∙ c.if-value-ne0.false) (omega (arith, low, version, most, some)))
-    c.requires.read.reserve.nodes c.requires.read.hand c.in-Ok.section c.in-Ok.is)
+    c.requires.read.reserve.nodes c.requires.read.reserve.blocks c.requires.read.hand c.in-Ok.section c.in-Ok.is)

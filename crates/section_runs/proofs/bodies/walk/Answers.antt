@@ -1,19 +1,21 @@
 use Rattle.std.proofs.Common.{◌≡◌, suc, ◌+◌, List, length, take, arith, ap, sym, refl, subst, ◌∙◌}
 use Rattle.std.specs.Prelude.{sum_by}
 use Rattle.idem_cell.specs.machine_states.specs.body_terms.specs.Cost.{step_cost}
-use Rattle.idem_cell.specs.machine_states.specs.body_terms.specs.Line.{registers_before}
+use Rattle.idem_cell.specs.machine_states.specs.body_terms.specs.Line.{log_words, registers_before}
 use Rattle.idem_cell.specs.machine_states.specs.body_terms.specs.Shape.{IsStep, IsShaped}
 use Rattle.idem_cell.specs.machine_states.specs.body_terms.specs.declared.outcome.Outcome.{Outcome}
 use Rattle.idem_cell.specs.machine_states.specs.body_terms.specs.declared.outcome.Outcome.TheVariants.{Answered}
 use Rattle.idem_cell.specs.machine_states.specs.body_terms.specs.declared.step.Step.{Step}
 use Rattle.idem_cell.specs.machine_states.specs.body_terms.proofs.LineLemmas.{read_step, registers_before_next}
 use Rattle.idem_cell.specs.section_lines.specs.Rests.{taken_releases}
+use Rattle.section_runs.specs.Reached.{run_of}
 use Rattle.section_runs.specs.Registers.{AreKept}
-use Rattle.section_runs.specs.Bodies.{NodesGone, body_of, IsBefore, HasWalked}
+use Rattle.section_runs.specs.Bodies.{body_links, NodesGone, body_of, IsBefore, HasWalked}
 use Rattle.section_runs.proofs.Using.{on_not_halted, left_not_halted}
-use Rattle.section_runs.proofs.Through.{through_more, halted_then, through_few}
+use Rattle.idem_alloc.specs.commit_log.specs.Links.{links_cost}
+use Rattle.idem_alloc.specs.commit_log.proofs.Halting.{through_more, halted_then, through_few}
 use Rattle.section_runs.proofs.Apart.{stood_apart, through_apart, halted_apart}
-use Rattle.section_runs.proofs.Walking.{none_before, sum_next, sum_most, sum_room, nodes_none, nodes_more, slot_left, same_none, same_more, body_same, walked_left, walked_all, walked_taken, takes_none, takes_more, is_over}
+use Rattle.section_runs.proofs.Walking.{none_before, links_at, walk_most, walk_next, walk_room, nodes_none, nodes_more, slot_left, same_none, same_more, body_same, walked_left, walked_all, walked_taken, takes_none, takes_more, is_over}
 use Rattle.idem_cell.specs.machine_states.specs.runner_steps.specs.Sections.{reply_in}
 use Rattle.section_runs.proofs.bodies.walk.Goals as goal
 
@@ -31,7 +33,7 @@ loop-n-init g c =
       nodes = nodes_none c.args.body.now r.part.nodes;
       among = takes_none c.args.body.now;
       uncounted = refl;
-      through = stood_apart m r _ _ _ c.new-made.ensures;
+      through = stood_apart m r _ _ _ _ c.new-made.ensures;
     }
 
 pub step_gated-gone-requires-clause-next : goal.step_gated-gone-requires-clause-next
@@ -92,7 +94,8 @@ loop-n-preserved g c =
     let still = on_not_halted c.step_gated-gone.result.1 on in
     let next : suc n ≡ n + 1 = omega arith in
     let g0 = registers_before body n in
-    let count = ap length inv.trail ∙ (inv.before.count ∙ ap (λ (xs : List Step). (registers_before xs n).count) (sym same_body)) in
+    let words = inv.before.count ∙ ap (λ (xs : List Step). (registers_before xs n).count) (sym same_body) in
+    let count = ap length inv.trail ∙ words in
     record {
       own = c.step_gated-gone.ensures.own;
       before = subst (λ k. IsBefore m k c.step_gated-gone.result.0) next (went.before on);
@@ -103,8 +106,9 @@ loop-n-preserved g c =
       nodes = subst (λ k. NodesGone body k r.part.nodes c.step_gated-gone.result.0.part.nodes) next (nodes_more body n step r.part.nodes now.part.nodes c.step_gated-gone.result.0.part.nodes here inv.nodes (went.nodes on));
       among = takes_more body n c.loop-n.taken c.taken_behind-taken.result step here c.taken_behind-taken.ensures inv.among;
       uncounted = inv.uncounted;
-      through = through_more m (sum_by step_cost (take n body)) (step_cost step) (sum_by step_cost (take (n + 1) body)) _ _ _ _ _ _ _ _ _ _ _ _
-          (let e = sum_next step_cost body n step here in let d = ap (λ k. sum_by step_cost (take k body)) next in omega (arith, e, d)) inv.through (went.through still);
+      through = through_more m (sum_by step_cost (take n body) + links_at body n) (step_cost step + links_cost (log_words step) (run_of now)) (sum_by step_cost (take (n + 1) body) + links_at body (n + 1))
+          _ _ _ _ _ _ _ _ _ _ _ _ inv.through (went.through still)
+          (walk_next body n step here (run_of now) words inv.before.running.enough);
     }
 
 pub returns-in-Left-clause-over : goal.returns-in-Left-clause-over
@@ -144,16 +148,21 @@ returns-in-Left-clause-late g c =
 pub returns-in-Left-clause-through : goal.returns-in-Left-clause-through
 returns-in-Left-clause-through g c =
     let m = g.S.Structure.meaning c.args.table.now.structure in
+    let r = c.args.runner in
     let body = c.args.body.now in
     let n = c.loop-n.n in
+    let now = c.loop-n.runner in
     let inv = c.loop-n.invariant in
     let step = c.index-body-n.result in
     let here = read_step body n step c.loop-n-test.true c.index-body-n.is in
+    let same_body : body ≡ body_of m now = c.requires.body ∙ sym (body_same m r now inv.same) in
+    let words = inv.before.count ∙ ap (λ (xs : List Step). (registers_before xs n).count) (sym same_body) in
     let went = c.step_gated-gone.ensures.went in
     let out = c.in-Left.is in
     let still = left_not_halted c.step_gated-gone.result.1 c.in-Left.outcome out in
     λ _. through_apart m _ _ _ _ _ _ _ _ _ _ _ inv.uncounted c.add_up.ensures.fits
-    (through_more m (sum_by step_cost (take n body)) (step_cost step) (sum_by step_cost body) _ _ _ _ _ _ _ _ _ _ _ _ (sum_room step_cost body n step here) inv.through (went.through still))
+    (through_more m (sum_by step_cost (take n body) + links_at body n) (step_cost step + links_cost (log_words step) (run_of now)) (sum_by step_cost body + body_links body) _ _ _ _ _ _ _ _ _ _ _ _ inv.through (went.through still)
+    (walk_room body n step here (run_of now) words inv.before.running.enough))
     c.add_up.ensures.added
 
 pub returns-in-Halted-clause-late : goal.returns-in-Halted-clause-late
@@ -166,14 +175,19 @@ returns-in-Halted-clause-late g c =
 pub returns-in-Halted-clause-halted : goal.returns-in-Halted-clause-halted
 returns-in-Halted-clause-halted g c =
     let m = g.S.Structure.meaning c.args.table.now.structure in
+    let r = c.args.runner in
     let body = c.args.body.now in
     let n = c.loop-n.n in
+    let now = c.loop-n.runner in
     let inv = c.loop-n.invariant in
     let step = c.index-body-n.result in
     let here = read_step body n step c.loop-n-test.true c.index-body-n.is in
+    let same_body : body ≡ body_of m now = c.requires.body ∙ sym (body_same m r now inv.same) in
+    let words = inv.before.count ∙ ap (λ (xs : List Step). (registers_before xs n).count) (sym same_body) in
     let went = c.step_gated-gone.ensures.went in
     λ _. halted_apart m _ _ _ _ _ _ _ _ _ _ _ inv.uncounted c.add_up-in-Halted.ensures.fits
-    (halted_then m (sum_by step_cost (take n body)) (step_cost step) (sum_by step_cost body) _ _ _ _ _ _ _ _ _ _ _ _ (sum_room step_cost body n step here) inv.through (went.halted c.in-Halted.is))
+    (halted_then m (sum_by step_cost (take n body) + links_at body n) (step_cost step + links_cost (log_words step) (run_of now)) (sum_by step_cost body + body_links body) _ _ _ _ _ _ _ _ _ _ _ _ inv.through (went.halted c.in-Halted.is)
+    (walk_room body n step here (run_of now) words inv.before.running.enough))
     c.add_up-in-Halted.ensures.added
 
 pub returns-clause-over : goal.returns-clause-over
@@ -196,7 +210,9 @@ returns-clause-trail g c =
 pub returns-clause-through : goal.returns-clause-through
 returns-clause-through g c =
     let m = g.S.Structure.meaning c.args.table.now.structure in
+    let r = c.args.runner in
     let body = c.args.body.now in
     let n = c.loop-n.n in
     λ _. through_apart m _ _ _ _ _ _ _ _ _ _ _ c.loop-n.invariant.uncounted c.add_up-2.ensures.fits
-    (through_few m _ _ _ _ _ _ _ _ _ _ (sum_most step_cost body n) c.loop-n.invariant.through) c.add_up-2.ensures.added
+    (through_few m (sum_by step_cost (take n body) + links_at body n) (sum_by step_cost body + body_links body) _ _ _ _ _ _ _ _
+    (walk_most body n c.loop-n.auto.n-end) c.loop-n.invariant.through) c.add_up-2.ensures.added

@@ -3,7 +3,7 @@ use Rattle.std.specs.Prelude.{count_by}
 use Rattle.idem_cell.specs.machine_states.specs.body_terms.specs.Shape.{is_take}
 use Rattle.idem_alloc.specs.commit_log.proofs.Asked.{asked_more}
 use Rattle.idem_alloc.specs.commit_log.proofs.Running.{ran_one}
-use Rattle.section_runs.proofs.Through.{halted_by, asked_if, through_more, halted_then, halted_few}
+use Rattle.idem_alloc.specs.commit_log.proofs.Halting.{halted_by, asked_if, through_more, halted_then, halted_few}
 use Rattle.section_runs.proofs.Ending.{ends_more, ends_body, ends_lock, ends_word}
 use Rattle.section_runs.proofs.ends.end.Goals as goal
 
@@ -22,7 +22,7 @@ returns-then-not-going-clause-halted g c =
 pub returns-then-not-going-2-clause-halted : goal.returns-then-not-going-2-clause-halted
 returns-then-not-going-2-clause-halted g c =
     let m = g.S.Structure.meaning c.args.table.now.structure in
-    λ _. halted_then m 1 (count_by is_take c.args.body.now) (2 + count_by is_take c.args.body.now) _ _ _ _ _ _ _ _ _ _ _ _ (omega arith) (c.finish-runner.ensures.through c.if-not-going.false) (c.release_all-runner.ensures.halted c.if-not-going-2.true)
+    λ _. halted_then m 1 (count_by is_take c.args.body.now) (2 + count_by is_take c.args.body.now) _ _ _ _ _ _ _ _ _ _ _ _ (c.finish-runner.ensures.through c.if-not-going.false) (c.release_all-runner.ensures.halted c.if-not-going-2.true) (omega arith)
 
 pub release_last-requires-clause-lock : goal.release_last-requires-clause-lock
 release_last-requires-clause-lock g c κs within =
@@ -50,7 +50,7 @@ returns-clause-ended g c =
     let r = c.args.runner in
     let same1 = c.finish-runner.ensures.same c.if-not-going.false in
     let same2 = ends_more m r c.finish-runner.result.0 c.release_all-runner.result.0 same1 (c.release_all-runner.ensures.same c.if-not-going-2.false) in
-    let before = (through_more m 1 (count_by is_take c.args.body.now) (1 + count_by is_take c.args.body.now) r c.finish-runner.result.0 c.release_all-runner.result.0 _ _ _ _ _ _ _ _ _ (omega arith) (c.finish-runner.ensures.through c.if-not-going.false) (c.release_all-runner.ensures.through c.if-not-going-2.false)) in
+    let before = (through_more m 1 (count_by is_take c.args.body.now) (1 + count_by is_take c.args.body.now) r c.finish-runner.result.0 c.release_all-runner.result.0 _ _ _ _ _ _ _ _ _ (c.finish-runner.ensures.through c.if-not-going.false) (c.release_all-runner.ensures.through c.if-not-going-2.false) (omega arith)) in
     λ going. record {
       ended = record {
         count = before.made;
@@ -68,6 +68,6 @@ pub returns-clause-halted : goal.returns-clause-halted
 returns-clause-halted g c =
     let m = g.S.Structure.meaning c.args.table.now.structure in
     let r = c.args.runner in
-    let before = (through_more m 1 (count_by is_take c.args.body.now) (1 + count_by is_take c.args.body.now) r c.finish-runner.result.0 c.release_all-runner.result.0 _ _ _ _ _ _ _ _ _ (omega arith) (c.finish-runner.ensures.through c.if-not-going.false) (c.release_all-runner.ensures.through c.if-not-going-2.false)) in
-    λ halted. halted_then m (1 + count_by is_take c.args.body.now) 1 (2 + count_by is_take c.args.body.now) _ _ _ _ _ _ _ _ _ _ _ _ (omega arith) before
-    (halted_by m 1 1 _ _ _ _ _ _ _ _ (omega arith) (omega arith) (ran_one m _ _ _ _ _ c.release_last.ensures.released.step) (asked_if halted c.release_last.ensures.asked))
+    let before = (through_more m 1 (count_by is_take c.args.body.now) (1 + count_by is_take c.args.body.now) r c.finish-runner.result.0 c.release_all-runner.result.0 _ _ _ _ _ _ _ _ _ (c.finish-runner.ensures.through c.if-not-going.false) (c.release_all-runner.ensures.through c.if-not-going-2.false) (omega arith)) in
+    λ halted. halted_then m (1 + count_by is_take c.args.body.now) 1 (2 + count_by is_take c.args.body.now) _ _ _ _ _ _ _ _ _ _ _ _ before
+    (halted_by m 1 1 _ _ _ _ _ _ _ _ (omega arith) (omega arith) (ran_one m _ _ _ _ _ c.release_last.ensures.released.step) (asked_if halted c.release_last.ensures.asked)) (omega arith)

@@ -1,6 +1,6 @@
 use Rattle.std.proofs.Common.{arith, refl}
 use Rattle.idem_alloc.specs.commit_log.proofs.Running.{ran_one}
-use Rattle.section_runs.proofs.Through.{through_by, halted_by, asked_if}
+use Rattle.idem_alloc.specs.commit_log.proofs.Halting.{through_by, halted_by, asked_if}
 use Rattle.section_runs.proofs.Ending.{may_finish, finishes, finished}
 use Rattle.section_runs.proofs.ends.finish.Goals as goal
 

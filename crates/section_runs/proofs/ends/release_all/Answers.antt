@@ -4,7 +4,7 @@ use Rattle.idem_cell.specs.machine_states.specs.body_terms.specs.Shape.{IsStep, 
 use Rattle.idem_cell.specs.machine_states.specs.body_terms.specs.declared.step.Step.{Step}
 use Rattle.idem_cell.specs.machine_states.specs.body_terms.proofs.LineLemmas.{read_step}
 use Rattle.section_runs.specs.Ends.{IsEnding}
-use Rattle.section_runs.proofs.Through.{through_more, halted_then, through_few}
+use Rattle.idem_alloc.specs.commit_log.proofs.Halting.{through_more, halted_then, through_few}
 use Rattle.section_runs.proofs.Walking.{sum_next, sum_most, sum_room}
 use Rattle.section_runs.proofs.Ending.{ends_more, ends_body, taken_by}
 use Rattle.section_runs.proofs.ends.release_all.Goals as goal
@@ -32,7 +32,7 @@ returns-then-not-going-clause-halted g c =
     let step = c.index-body-n.result in
     let low : n < length body = (let a = c.loop-n-test.true in let b = c.requires.within in omega (arith, a, b)) in
     let here = read_step body n step low c.index-body-n.is in
-    λ _. halted_then m (count_by is_take (take n body)) (taken_by step) (count_by is_take body) _ _ _ _ _ _ _ _ _ _ _ _ (sum_room taken_by body n step here) inv.through (c.release_step-released.ensures.halted c.if-not-going.true)
+    λ _. halted_then m (count_by is_take (take n body)) (taken_by step) (count_by is_take body) _ _ _ _ _ _ _ _ _ _ _ _ inv.through (c.release_step-released.ensures.halted c.if-not-going.true) (sum_room taken_by body n step here)
 
 pub loop-n-preserved : goal.loop-n-preserved
 loop-n-preserved g c =
@@ -51,8 +51,8 @@ loop-n-preserved g c =
       own = c.release_step-released.ensures.own;
       ending = c.release_step-released.ensures.ending going;
       same = ends_more m r now c.release_step-released.result.0 inv.same (c.release_step-released.ensures.same going);
-      through = through_more m (count_by is_take (take n body)) (taken_by step) (count_by is_take (take (n + 1) body)) _ _ _ _ _ _ _ _ _ _ _ _
-          (let e = sum_next taken_by body n step here in let d = ap (λ k. count_by is_take (take k body)) next in omega (arith, e, d)) inv.through (c.release_step-released.ensures.through going);
+      through = through_more m (count_by is_take (take n body)) (taken_by step) (count_by is_take (take (n + 1) body)) _ _ _ _ _ _ _ _ _ _ _ _ inv.through (c.release_step-released.ensures.through going)
+          (let e = sum_next taken_by body n step here in let d = ap (λ k. count_by is_take (take k body)) next in omega (arith, e, d));
     }
 
 pub returns-clause-ending : goal.returns-clause-ending

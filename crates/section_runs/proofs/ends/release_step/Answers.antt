@@ -4,7 +4,7 @@ use Rattle.idem_cell.specs.machine_states.specs.body_terms.specs.Shape.{IsStep, 
 use Rattle.idem_cell.specs.machine_states.specs.body_terms.specs.declared.step.Step.{Step}
 use Rattle.idem_alloc.specs.commit_log.proofs.Running.{ran_one}
 use Rattle.section_runs.specs.Bodies.{body_of}
-use Rattle.section_runs.proofs.Through.{through_by, halted_by, asked_if}
+use Rattle.idem_alloc.specs.commit_log.proofs.Halting.{through_by, halted_by, asked_if}
 use Rattle.section_runs.proofs.Ending.{may_release_take, releases_take, released_take, skipped, ends_same, not_take}
 use Rattle.section_runs.proofs.Testing.{stood}
 use Rattle.section_runs.proofs.ends.release_step.Goals as goal

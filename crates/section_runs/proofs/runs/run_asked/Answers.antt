@@ -1,8 +1,9 @@
 use Rattle.std.proofs.Common.{◌+◌, ◌≤◌, length, arith, sym, refl, subst, true, false, inl, inr}
-use Rattle.idem_cell.specs.machine_states.specs.runner_parts.specs.State.{NodesState}
+use Rattle.idem_cell.specs.machine_states.specs.runner_parts.specs.State.{NodesState, BlocksState}
 use Rattle.idem_alloc.specs.commit_log.proofs.Asked.{asked_more}
+use Rattle.section_runs.specs.Reached.{run_blocks}
 use Rattle.section_runs.proofs.Through.{some_of, none_of}
-use Rattle.section_runs.proofs.Openeds.{stands_opened, cost_rest}
+use Rattle.section_runs.proofs.Openeds.{stands_opened, rest_few}
 use Rattle.section_runs.proofs.runs.run_asked.Goals as goal
 
 pub run_loaded-requires-clause-opened : goal.run_loaded-requires-clause-opened
@@ -14,6 +15,10 @@ run_loaded-requires-clause-opened g c κs within =
 pub run_loaded-requires-clause-reserve : goal.run_loaded-requires-clause-reserve
 run_loaded-requires-clause-reserve g c κs within =
     let hop = some_of _ _ _ c.in-Some.is c.open-runner.ensures.opened in subst (λ (n : NodesState). 2 ≤ length n.free) (sym hop.nodes) c.requires.reserve
+
+pub run_loaded-requires-clause-blocks : goal.run_loaded-requires-clause-blocks
+run_loaded-requires-clause-blocks g c κs within =
+    let hop = some_of _ _ _ c.in-Some.is c.open-runner.ensures.opened in subst (λ (b : BlocksState). run_blocks ≤ length b.free) (sym hop.blocks) c.requires.blocks
 
 pub returns-in-Some-clause-done : goal.returns-in-Some-clause-done
 returns-in-Some-clause-done g c =
@@ -36,7 +41,7 @@ returns-in-Some-clause-halted g c =
         count = cut.made;
         ran = cut.ran;
         counted = refl;
-        few = let f = cut.few in let z = cost_rest (m.body c.in-Some.thunk) in omega (arith, f, z);
+        few = rest_few (m.body c.in-Some.thunk) cut.made cut.few;
       }),
       asked_more 13 cut.made false _ _ _ _ _ _ _ _ _ (some_of _ _ _ c.in-Some.is c.open-runner.ensures.asked) cut.asked,
     )

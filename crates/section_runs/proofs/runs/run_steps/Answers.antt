@@ -1,6 +1,7 @@
-use Rattle.std.proofs.Common.{◌≡◌, ◌+◌, ◌≤◌, length, arith, ap, sym, subst, ◌∙◌, true, refl}
+use Rattle.idem_cell.specs.machine_states.specs.body_terms.specs.declared.step.Step.{Step}
+use Rattle.std.proofs.Common.{◌≡◌, ◌+◌, ◌≤◌, List, length, arith, ap, sym, subst, ◌∙◌, true, refl}
 use Rattle.std.specs.Prelude.{count_by, sum_by}
-use Rattle.idem_cell.specs.machine_states.specs.body_terms.specs.Cost.{cost_of, step_cost}
+use Rattle.idem_cell.specs.machine_states.specs.body_terms.specs.Cost.{step_cost}
 use Rattle.idem_cell.specs.machine_states.specs.body_terms.specs.Shape.{IsShaped, is_take}
 use Rattle.idem_cell.specs.machine_states.specs.body_terms.specs.Trail.{Agreed}
 use Rattle.idem_cell.specs.machine_states.specs.body_terms.specs.declared.outcome.Outcome.{Outcome}
@@ -8,13 +9,13 @@ use Rattle.idem_cell.specs.machine_states.specs.body_terms.specs.declared.thunk.
 use Rattle.idem_cell.specs.machine_states.specs.runner_steps.specs.Sections.{thunk_of}
 use Rattle.idem_alloc.specs.commit_log.proofs.Asked.{asked_more}
 use Rattle.section_runs.specs.Reached.{run_of}
-use Rattle.section_runs.specs.Bodies.{body_of}
+use Rattle.section_runs.specs.Bodies.{body_links, body_of}
 use Rattle.section_runs.specs.Ended.{EndsSo, rest_of}
 use Rattle.section_runs.proofs.Going.{shaped}
-use Rattle.section_runs.proofs.Through.{halted_then, halted_few}
+use Rattle.idem_alloc.specs.commit_log.proofs.Halting.{halted_then, halted_few}
 use Rattle.section_runs.proofs.Walking.{body_same}
 use Rattle.section_runs.proofs.Ended.{ends_so}
-use Rattle.section_runs.proofs.Openeds.{opened_body, opened_thunk, opened_descriptor, opened_trail, opened_before, few_makes, cost_rest, done_going, halted_going, same_end}
+use Rattle.section_runs.proofs.Openeds.{opened_body, opened_thunk, opened_descriptor, opened_trail, opened_before, few_makes, all_few, done_going, halted_going, same_end}
 use Rattle.section_runs.proofs.runs.run_steps.Goals as goal
 
 pub walk-runner-requires-clause-body : goal.walk-runner-requires-clause-body
@@ -51,7 +52,7 @@ walk-runner-requires-clause-before g c κs within =
     let allowed = c.requires.own.allowed _ refl in
     let r = c.args.runner in
     let whole : IsShaped (body_of m r) = shaped m laws t limits allowed r c.requires.own (run_of r) c.requires.opened.inside in
-    opened_before m c.args.descriptor c.args.thunk.now c.args.trail.now.late r c.requires.opened whole
+    opened_before m c.args.descriptor c.args.thunk.now c.args.trail.now.late r c.requires.opened c.requires.blocks whole
 
 pub walk-runner-requires-clause-section : goal.walk-runner-requires-clause-section
 walk-runner-requires-clause-section g c κs within =
@@ -138,7 +139,9 @@ returns-in-Over-clause-done g c =
     let same_as = same_end c.ended.result c.in-Over.outcome o _ trail (c.ended.ensures.done going) e in
     let went = c.walk-runner.ensures.through (λ e. let z = sym c.in-Over.is ∙ e in cc) in
     let last = c.end-runner.ensures.ended going in
-    let few : 13 + (went.made + (last.ended.count + 1)) ≤ cost_of body = (let a = went.few in let b = last.few in let x = ap (sum_by step_cost) is_body in let y = ap (count_by is_take) is_body in let z = cost_rest body in omega (arith, a, b, x, y, z)) in
+    let some : went.made ≤ sum_by step_cost body + body_links body = subst (λ (xs : List Step). went.made ≤ sum_by step_cost xs + body_links xs) is_body went.few in
+    let rest : last.ended.count ≤ 1 + count_by is_take body = subst (λ (xs : List Step). last.ended.count ≤ 1 + count_by is_take xs) is_body last.few in
+    let few = all_few body went.made last.ended.count some rest in
     let ends = ends_so m laws t limits allowed r r2 c.end-runner.result.0 c.requires.own c.args.descriptor c.args.thunk.now c.args.trail.now.late c.requires.opened c.in-Over.taken c.in-Over.outcome walked went.made went.ran last.ended
     before hop _ (c.walk-runner.ensures.trail (λ e. let z = sym c.in-Over.is ∙ e in cc)) c.walk-runner.ensures.late few in (
       went.made + (last.ended.count + 1),
@@ -154,13 +157,14 @@ returns-in-Over-clause-halted g c =
     let is_body : c.args.line.now ≡ body = c.requires.line in
     λ e.
     let halted = halted_going c.end-runner.result.1 c.ended.result _ _ c.ended.ensures.done e in
-    halted_then m (sum_by step_cost c.args.line.now) (2 + count_by is_take c.args.line.now) (rest_of body) _ _ _ _ _ _ _ _ _ _ _ _
-    (let x = ap (sum_by step_cost) is_body in let y = ap (count_by is_take) is_body in omega (arith, x, y)) (c.walk-runner.ensures.through (λ e. let z = sym c.in-Over.is ∙ e in cc)) (c.end-runner.ensures.halted halted)
+    halted_then m (sum_by step_cost c.args.line.now + body_links c.args.line.now) (2 + count_by is_take c.args.line.now) (rest_of body) _ _ _ _ _ _ _ _ _ _ _ _
+    (c.walk-runner.ensures.through (λ e. let z = sym c.in-Over.is ∙ e in cc)) (c.end-runner.ensures.halted halted)
+    (subst (λ (xs : List Step). sum_by step_cost c.args.line.now + body_links c.args.line.now + (2 + count_by is_take c.args.line.now) ≤ rest_of xs) is_body (omega arith))
 
 pub returns-in-Stopped-clause-halted : goal.returns-in-Stopped-clause-halted
 returns-in-Stopped-clause-halted g c =
     let m = g.S.Structure.meaning c.args.table.now.structure in
     let body = m.body c.args.thunk.now in
     let is_body : c.args.line.now ≡ body = c.requires.line in
-    λ _. halted_few m (sum_by step_cost c.args.line.now) (rest_of body) _ _ _ _ _ _ _ _
-    (let x = ap (sum_by step_cost) is_body in omega (arith, x)) (c.walk-runner.ensures.halted c.in-Stopped.is)
+    λ _. halted_few m (sum_by step_cost c.args.line.now + body_links c.args.line.now) (rest_of body) _ _ _ _ _ _ _ _
+    (subst (λ (xs : List Step). sum_by step_cost c.args.line.now + body_links c.args.line.now ≤ rest_of xs) is_body (omega arith)) (c.walk-runner.ensures.halted c.in-Stopped.is)

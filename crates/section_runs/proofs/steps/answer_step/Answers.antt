@@ -1,7 +1,6 @@
 use Rattle.std.proofs.Common.{arith, refl}
-use Rattle.section_runs.proofs.Through.{through_by, halted_by}
 use Rattle.idem_alloc.specs.commit_log.proofs.Running.{ran_one}
-use Rattle.section_runs.proofs.Through.{asked_if}
+use Rattle.idem_alloc.specs.commit_log.proofs.Halting.{through_by, halted_by, asked_if}
 use Rattle.section_runs.proofs.Stamping.{may_answer, answers, answer_goes, answer_trail}
 use Rattle.section_runs.proofs.steps.answer_step.Goals as goal
 

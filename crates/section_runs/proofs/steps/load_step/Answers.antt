@@ -2,7 +2,7 @@ use Rattle.std.proofs.Common.{length, arith, ap, refl}
 use Rattle.idem_cell.specs.machine_states.specs.body_terms.specs.declared.step.Step.TheVariants as kinds
 use Rattle.section_runs.specs.Reached.{run_of}
 use Rattle.section_runs.proofs.Going.{log_room}
-use Rattle.section_runs.proofs.Through.{some_of, loaded_ran, through_by}
+use Rattle.section_runs.proofs.Through.{some_of, none_of}
 use Rattle.section_runs.proofs.Cases.{may_load, load_goes}
 use Rattle.section_runs.proofs.steps.load_step.Goals as goal
 
@@ -32,8 +32,10 @@ returns-in-Some-clause-goes g c =
 
 pub returns-in-Some-clause-through : goal.returns-in-Some-clause-through
 returns-in-Some-clause-through g c =
-    let m = g.S.Structure.meaning c.args.table.now.structure in
     let r = c.args.runner in
-    λ _. through_by m 2 2 _ _ _ _ _ _ _ _ (omega arith)
-    (loaded_ran m r _ (run_of r) _ _ (some_of _ _ _ c.in-Some.is c.load_gated-runner.ensures.loaded (run_of r) c.requires.next.1.before.running))
-    (some_of _ _ _ c.in-Some.is c.load_gated-runner.ensures.asked)
+    λ _. some_of _ _ _ c.in-Some.is c.load_gated-runner.ensures.through (run_of r) c.requires.next.1.before.running
+
+pub returns-in-None-clause-halted : goal.returns-in-None-clause-halted
+returns-in-None-clause-halted g c =
+    let r = c.args.runner in
+    λ _. none_of _ _ c.in-None.is c.load_gated-runner.ensures.halted (run_of r) c.requires.next.1.before.running

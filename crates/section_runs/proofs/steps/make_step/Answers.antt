@@ -2,7 +2,7 @@ use Rattle.std.proofs.Common.{length, arith, ap, sym, subst, ◌∙◌, refl}
 use Rattle.idem_cell.specs.machine_states.specs.body_terms.specs.declared.step.Step.TheVariants as kinds
 use Rattle.section_runs.specs.Reached.{run_of}
 use Rattle.section_runs.proofs.Going.{log_room}
-use Rattle.section_runs.proofs.Through.{some_of, made_ran, through_by}
+use Rattle.section_runs.proofs.Through.{some_of, none_of}
 use Rattle.idem_cell.specs.machine_states.specs.body_terms.specs.declared.value.Value.TheVariants.{Const}
 use Rattle.std.specs.Prelude.{slice_index_or}
 use Rattle.idem_cell.specs.machine_states.specs.body_terms.specs.Line.{registers_before, source_of}
@@ -123,8 +123,10 @@ returns-in-Some-clause-goes g c =
 
 pub returns-in-Some-clause-through : goal.returns-in-Some-clause-through
 returns-in-Some-clause-through g c =
-    let m = g.S.Structure.meaning c.args.table.now.structure in
     let r = c.args.runner in
-    λ _. through_by m 11 11 _ _ _ _ _ _ _ _ (omega arith)
-    (made_ran m r _ (run_of r) _ (some_of _ _ _ c.in-Some.is c.make_gated-runner.ensures.made (run_of r) c.requires.next.1.may.before.running))
-    (some_of _ _ _ c.in-Some.is c.make_gated-runner.ensures.asked)
+    λ _. some_of _ _ _ c.in-Some.is c.make_gated-runner.ensures.through (run_of r) c.requires.next.1.may.before.running
+
+pub returns-in-None-clause-halted : goal.returns-in-None-clause-halted
+returns-in-None-clause-halted g c =
+    let r = c.args.runner in
+    λ _. none_of _ _ c.in-None.is c.make_gated-runner.ensures.halted (run_of r) c.requires.next.1.may.before.running

@@ -2,7 +2,6 @@ use Rattle.std.proofs.Common.{length, arith, ap, refl}
 use Rattle.idem_cell.specs.machine_states.specs.body_terms.specs.declared.step.Step.TheVariants as kinds
 use Rattle.section_runs.specs.Reached.{run_of}
 use Rattle.section_runs.proofs.Going.{log_room}
-use Rattle.section_runs.proofs.Through.{retired_ran, through_by}
 use Rattle.section_runs.proofs.Cases.{may_retire, retire_goes}
 use Rattle.section_runs.proofs.steps.retire_step.Goals as goal
 
@@ -32,8 +31,10 @@ returns-clause-goes g c =
 
 pub returns-clause-through : goal.returns-clause-through
 returns-clause-through g c =
-    let m = g.S.Structure.meaning c.args.table.now.structure in
     let r = c.args.runner in
-    λ going. through_by m 2 2 _ _ _ _ _ _ _ _ (omega arith)
-    (retired_ran m r _ (run_of r) _ (c.retire_gated-runner.ensures.retired going (run_of r) c.requires.next.before.running))
-    (c.retire_gated-runner.ensures.asked going)
+    λ going. c.retire_gated-runner.ensures.through going (run_of r) c.requires.next.before.running
+
+pub returns-clause-halted : goal.returns-clause-halted
+returns-clause-halted g c =
+    let r = c.args.runner in
+    λ halted. c.retire_gated-runner.ensures.halted halted (run_of r) c.requires.next.before.running

@@ -1,9 +1,7 @@
 use Rattle.std.proofs.Common.{arith, ap, refl}
-use Rattle.section_runs.proofs.Through.{through_by, halted_by}
 use Rattle.idem_alloc.specs.commit_log.proofs.Running.{ran_one}
 use Rattle.idem_alloc.specs.commit_log.proofs.Asked.{asked_more}
-use Rattle.idem_alloc.specs.commit_log.proofs.Halting.{halted_first, halted_more}
-use Rattle.section_runs.proofs.Through.{asked_if}
+use Rattle.idem_alloc.specs.commit_log.proofs.Halting.{halted_first, halted_more, through_by, halted_by, asked_if}
 use Rattle.std.specs.Prelude.{◌/◌}
 use Rattle.section_runs.proofs.Stamping.{may_load, loads, few_clock, may_exchange, exchanges, stamp_is, may_raise, raises, stamp_ran, stamp_goes, stamp_trail}
 use Rattle.section_runs.proofs.steps.stamp_step.Goals as goal

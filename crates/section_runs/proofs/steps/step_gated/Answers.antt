@@ -1,4 +1,4 @@
-use Rattle.std.proofs.Common.{length, ap, sym, refl, subst, ◌∙◌, None, Some, cond}
+use Rattle.std.proofs.Common.{◌+◌, length, arith, ap, sym, refl, subst, ◌∙◌, None, Some, cond}
 use Rattle.std.specs.Prelude.{◌==◌, slice_index}
 use Rattle.idem_cell.specs.machine_states.specs.body_terms.specs.Act.{IsLogged}
 use Rattle.idem_cell.specs.machine_states.specs.body_terms.specs.Line.{registers_before}
@@ -9,6 +9,8 @@ use Rattle.idem_cell.specs.machine_states.specs.body_terms.specs.Shape.{is_make}
 use Rattle.idem_cell.specs.machine_states.specs.table_words.specs.declared.layout.Layout.{Layout}
 use Rattle.idem_cell.specs.machine_states.specs.body_terms.specs.declared.step.Step.{Step}
 use Rattle.idem_cell.specs.machine_states.specs.body_terms.specs.declared.step.Step.TheVariants as kinds
+use Rattle.idem_alloc.specs.commit_log.specs.Links.{links_cost}
+use Rattle.idem_alloc.specs.commit_log.proofs.Halting.{through_few, halted_few}
 use Rattle.section_runs.specs.Reached.{run_of}
 use Rattle.section_runs.specs.Bodies.{body_of}
 use Rattle.section_runs.specs.declared.passed.Passed.TheVariants.{On, Left}
@@ -72,7 +74,7 @@ returns-in-Stamp-clause-went g c =
     let m = g.S.Structure.meaning c.args.table.now.structure in
     let r = c.args.runner in
     went_by m c.args.n c.args.step.now _ c.args.kept.now c.in-Stamp.is r _ c.requires.next _ _ _ _ _ _ _ _ _ c.stamp_step-runner.result.1 c.passed-in-Stamp.ensures
-    c.stamp_step-runner.ensures.goes (λ on. c.requires.trail ∙ sym (c.stamp_step-runner.ensures.trail on)) refl c.stamp_step-runner.ensures.through c.stamp_step-runner.ensures.halted
+    c.stamp_step-runner.ensures.goes (λ on. c.requires.trail ∙ sym (c.stamp_step-runner.ensures.trail on)) refl (λ on. through_few m 3 (3 + links_cost 0 (run_of r)) _ _ _ _ _ _ _ _ (omega arith) (c.stamp_step-runner.ensures.through on)) (λ off. halted_few m 3 (3 + links_cost 0 (run_of r)) _ _ _ _ _ _ _ _ (omega arith) (c.stamp_step-runner.ensures.halted off))
 
 pub store_step-runner-requires-clause-next : goal.store_step-runner-requires-clause-next
 store_step-runner-requires-clause-next g c κs within =
@@ -85,7 +87,7 @@ returns-in-Store-clause-went g c =
     let m = g.S.Structure.meaning c.args.table.now.structure in
     let r = c.args.runner in
     went_by m c.args.n c.args.step.now _ c.args.kept.now c.in-Store.is r _ c.requires.next _ _ _ _ _ _ _ _ _ c.store_step-runner.result.1 c.passed-in-Store.ensures
-    c.store_step-runner.ensures.goes c.store_step-runner.ensures.trail refl c.store_step-runner.ensures.through c.store_step-runner.ensures.halted
+    c.store_step-runner.ensures.goes c.store_step-runner.ensures.trail refl (λ on. through_few m 1 (1 + links_cost 0 (run_of r)) _ _ _ _ _ _ _ _ (omega arith) (c.store_step-runner.ensures.through on)) (λ off. halted_few m 1 (1 + links_cost 0 (run_of r)) _ _ _ _ _ _ _ _ (omega arith) (c.store_step-runner.ensures.halted off))
 
 pub retire_step-runner-requires-clause-next : goal.retire_step-runner-requires-clause-next
 retire_step-runner-requires-clause-next g c κs within =
@@ -111,7 +113,7 @@ returns-in-Answer-clause-went g c =
     let m = g.S.Structure.meaning c.args.table.now.structure in
     let r = c.args.runner in
     went_by m c.args.n c.args.step.now _ c.args.kept.now c.in-Answer.is r _ c.requires.next _ _ _ _ _ _ _ _ _ c.answer_step-runner.result.1 c.passed-in-Answer.ensures
-    c.answer_step-runner.ensures.goes (λ on. c.requires.trail ∙ sym (c.answer_step-runner.ensures.trail on)) refl c.answer_step-runner.ensures.through c.answer_step-runner.ensures.halted
+    c.answer_step-runner.ensures.goes (λ on. c.requires.trail ∙ sym (c.answer_step-runner.ensures.trail on)) refl (λ on. through_few m 1 (1 + links_cost 0 (run_of r)) _ _ _ _ _ _ _ _ (omega arith) (c.answer_step-runner.ensures.through on)) (λ off. halted_few m 1 (1 + links_cost 0 (run_of r)) _ _ _ _ _ _ _ _ (omega arith) (c.answer_step-runner.ensures.halted off))
 
 pub wanted-requires : goal.wanted-requires
 wanted-requires g c =

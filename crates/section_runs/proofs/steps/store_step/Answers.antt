@@ -5,6 +5,8 @@ use Rattle.std.specs.Prelude.{slice_index}
 use Rattle.idem_cell.specs.machine_states.specs.body_terms.specs.Line.{registers_before, source_of}
 use Rattle.idem_cell.specs.machine_states.specs.body_terms.specs.Run.{source_value}
 use Rattle.idem_cell.specs.machine_states.specs.body_terms.specs.Act.{IsLogged}
+use Rattle.idem_alloc.specs.commit_log.proofs.Running.{ran_one}
+use Rattle.idem_alloc.specs.commit_log.proofs.Halting.{through_by, halted_by, asked_if}
 use Rattle.section_runs.specs.Bodies.{body_of}
 use Rattle.section_runs.proofs.Going.{shaped}
 use Rattle.section_runs.proofs.Using.{used_at}
@@ -88,3 +90,17 @@ returns-clause-goes g c =
     let m = g.S.Structure.meaning c.args.table.now.structure in
     let r = c.args.runner in
     λ going. store_goes m r c.args.reg c.args.value _ _ _ _ (c.store-runner.ensures.stored (run_of r) c.requires.next.may.before.running)
+
+pub returns-clause-through : goal.returns-clause-through
+returns-clause-through g c =
+    let m = g.S.Structure.meaning c.args.table.now.structure in
+    let r = c.args.runner in
+    let has = c.store-runner.ensures.stored (run_of r) c.requires.next.may.before.running in
+    λ going. through_by m 1 1 _ _ _ _ _ _ _ _ (omega arith) (ran_one m _ _ _ _ _ has.step) (asked_if going c.passes-going.ensures)
+
+pub returns-clause-halted : goal.returns-clause-halted
+returns-clause-halted g c =
+    let m = g.S.Structure.meaning c.args.table.now.structure in
+    let r = c.args.runner in
+    let has = c.store-runner.ensures.stored (run_of r) c.requires.next.may.before.running in
+    λ halted. halted_by m 1 1 _ _ _ _ _ _ _ _ (omega arith) (omega arith) (ran_one m _ _ _ _ _ has.step) (asked_if halted c.passes-going.ensures)

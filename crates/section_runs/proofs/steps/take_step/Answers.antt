@@ -2,7 +2,7 @@ use Rattle.std.proofs.Common.{◌++◌, length, arith, ap, sym, ◌∙◌, refl}
 use Rattle.idem_cell.specs.machine_states.specs.body_terms.specs.declared.step.Step.TheVariants as kinds
 use Rattle.section_runs.specs.Reached.{run_of}
 use Rattle.section_runs.proofs.Going.{log_room}
-use Rattle.section_runs.proofs.Through.{some_of}
+use Rattle.section_runs.proofs.Through.{some_of, none_of}
 use Rattle.section_runs.proofs.Using.{on_ok, left_some}
 use Rattle.section_runs.proofs.Taking.{may_take, take_goes, take_leaves, take_trail}
 use Rattle.section_runs.specs.Takes.{words_of}
@@ -43,3 +43,13 @@ returns-in-Some-clause-trail g c =
     let m = g.S.Structure.meaning c.args.table.now.structure in
     let r = c.args.runner in
     λ _. c.agree_on.ensures.words ∙ (ap (λ xs. xs ++ words_of c.in-Some.end) c.requires.trail ∙ take_trail m r c.args.place c.args.word c.requires.next _ _ (some_of _ _ _ c.in-Some.is c.take_gated-runner.ensures.taken (run_of r) c.requires.next.before.running))
+
+pub returns-in-Some-clause-through : goal.returns-in-Some-clause-through
+returns-in-Some-clause-through g c =
+    let r = c.args.runner in
+    λ _. some_of _ _ _ c.in-Some.is c.take_gated-runner.ensures.through (run_of r) c.requires.next.before.running
+
+pub returns-in-None-clause-halted : goal.returns-in-None-clause-halted
+returns-in-None-clause-halted g c =
+    let r = c.args.runner in
+    λ _. none_of _ _ c.in-None.is c.take_gated-runner.ensures.halted (run_of r) c.requires.next.before.running

@@ -1,4 +1,4 @@
-use Rattle.std.proofs.Common.{rules, ◌≡◌, ℕ, ◌+◌, ◌<◌, ◌++◌, ◌∷◌, [], length, take, get_or, vec_items, vec_len, ◌∙◌, ap, sym, subst, arith}
+use Rattle.std.proofs.Common.{rules, ◌≡◌, ℕ, ◌+◌, ◌<◌, List, ◌++◌, ◌∷◌, [], length, take, get_or, vec_items, vec_len, ◌∙◌, ap, sym, subst, arith}
 use Rattle.std.specs.Vec.Iter.{into_iter_items, into_iter_len}
 use Rattle.machine_states.specs.table_words.specs.declared.layout.Layout.{Layout}
 use Rattle.version_words.proofs.Stages.{may_join}
@@ -12,6 +12,17 @@ use Rattle.settled_tables.proofs.Working.{rest_behind}
 use Rattle.threaded_runs.proofs.Seats.{kept_more}
 use Rattle.threaded_runs.proofs.Counting.{halts_more, counted_so, asks_next, one_returned}
 use Rattle.threaded_runs.proofs.seating.gather.Goals as goal
+
+-- what comes next of a list is its element at this place, and there is one
+first_item : {X : Type 0} (whole old new : List X) (x : X) (past many left : ℕ) → old ≡ x ∷ new → left + 1 ≡ many
+    → ((k : ℕ) (d : X) → k < many → get_or old k d ≡ get_or whole (past + k) d) → (d : X) → get_or whole past d ≡ x
+first_item whole old new x past many left is lens all d =
+    let some : 0 < many = omega (arith, lens) in
+    let same : past + 0 ≡ past = omega arith in
+    ap (λ (n : ℕ). get_or whole n d) (sym same) ∙ (sym (all 0 d some) ∙ ap (λ xs. get_or xs 0 d) is)
+
+one_left : (past many left all : ℕ) → past + many ≡ all → left + 1 ≡ many → past < all
+one_left past many left all sum lens = omega (arith, sum, lens)
 
 pub join_runner-keeper-requires-clause-next : goal.join_runner-keeper-requires-clause-next
 join_runner-keeper-requires-clause-next g c κs within =
@@ -33,8 +44,11 @@ loop-one-preserved g c =
     let of_gate = g.G.Gate.Gate.halts f.gate in
     let asks = g.G.Gate.Gate.asks in
     let asked = g.G.Gates.asks c.args.gates.now in
-    let here : (d : Finished g.row.S.Denot g.row.G-Gate.Denot) → get_or (vec_items c.args.finished) past d ≡ f = λ d. let h = was.3 0 d in grind rules in
-    let low : past < length (vec_items c.args.finished) = (let sum = was.2 in grind rules) in
+    let here : (d : Finished g.row.S.Denot g.row.G-Gate.Denot) → get_or (vec_items c.args.finished) past d ≡ f =
+    first_item (vec_items c.args.finished) (into_iter_items c.loop-one.one-iterator) (into_iter_items c.next.new.self) f past (into_iter_len c.loop-one.one-iterator) (into_iter_len c.next.new.self)
+    step.0 step.1 was.3 in
+    let few : past < vec_len c.args.finished = one_left past (into_iter_len c.loop-one.one-iterator) (into_iter_len c.next.new.self) (vec_len c.args.finished) was.2 step.1 in
+    let low : past < length (vec_items c.args.finished) = omega (arith, few, c.args.finished.ok.0) in
     let back = subst (IsBack g.G.Gate.Gate.halts c.args.table.now past) (here f) (c.requires.back past f low) in
     let long : length given ≡ past = search rules in
     let pushed : vec_items c.push.new.self ≡ given ++ f.answer ∷ [] = c.in_ok-push.ensures.items in

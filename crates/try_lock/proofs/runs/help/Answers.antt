@@ -9,6 +9,9 @@ run-requires-clause-next g c κs within = help_begins (g.S.Structure.meaning c.a
 pub run-requires-clause-reserve : goal.run-requires-clause-reserve
 run-requires-clause-reserve g c κs within = c.requires.next.reserve
 
+pub run-requires-clause-blocks : goal.run-requires-clause-blocks
+run-requires-clause-blocks g c κs within = c.requires.next.blocks
+
 pub overflow_sub-value : goal.overflow_sub-value
 overflow_sub-value g c = some_value c.args.held c.value.result c.value.ensures c.requires.next.names
 

@@ -20,3 +20,6 @@ returns-clause-done g c = λ t o trail may e.
 
 pub run-requires-clause-reserve : goal.run-requires-clause-reserve
 run-requires-clause-reserve g c κs within = c.requires.next.1.reserve
+
+pub run-requires-clause-blocks : goal.run-requires-clause-blocks
+run-requires-clause-blocks g c κs within = c.requires.next.1.blocks

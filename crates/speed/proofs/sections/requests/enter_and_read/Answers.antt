@@ -8,4 +8,4 @@ pub load_cell-requires-clause-next : goal.load_cell-requires-clause-next
 load_cell-requires-clause-next c κs = may_load_fixed tray c.enter-worker.result c.enter-worker.ensures.enters.epoch 0 None c.enter-worker.ensures.enters.at (omega arith)
 
 pub returns-clause-read : goal.returns-clause-read
-returns-clause-read c = then_read c.args.worker c.enter-worker.result c.load_cell.result.0 c.args.request c.load_cell.result.1 c.requires.before c.requires.nodes c.requires.descriptors c.enter-worker.ensures.enters c.load_cell.ensures.event
+returns-clause-read c = then_read c.args.worker c.enter-worker.result c.load_cell.result.0 c.args.request c.load_cell.result.1 c.requires.before c.requires.nodes c.requires.descriptors c.requires.blocks c.enter-worker.ensures.enters c.load_cell.ensures.event

@@ -14,7 +14,7 @@ load_at-found-requires-clause-named g c =
     let seat = c.runner.inside.seat in let r = seen_seat seat.table_id seat.me in
     let own = subst (λ r. IsOf t r) (sym c.runner.view_is) c.requires.own in
     let next = subst (IsEnabled m (PrivateLoad slot c.args.word)) (sym c.runner.view_is) c.requires.next in
-    λ κs lives. load_named m t r own slot c.args.word next c.descriptor_spot-spot.result (c.descriptor_spot-spot.ensures ∙ sym (descriptor_there m t.layout c.args.descriptor c.args.word))
+    λ κs lives. load_named m t r own slot c.args.word next c.descriptor_spot-spot.result (c.descriptor_spot-spot.ensures ∙ sym (descriptor_there m t.layout c.args.descriptor c.args.word c.requires.few))
 
 pub word_at-at-requires : goal.word_at-at-requires
 word_at-at-requires g c = let t = c.self.inside in
@@ -26,7 +26,7 @@ load_at-found-requires-clause-at g c =
     let seat = c.runner.inside.seat in let r = seen_seat seat.table_id seat.me in
     let own = subst (λ r. IsOf t r) (sym c.runner.view_is) c.requires.own in
     let next = subst (IsEnabled m (PrivateLoad slot c.args.word)) (sym c.runner.view_is) c.requires.next in
-    let there = descriptor_there m t.layout c.args.descriptor c.args.word in
+    let there = descriptor_there m t.layout c.args.descriptor c.args.word c.requires.few in
     λ κs lives. c.word_at-at.ensures ∙ (ap (λ n. n + c.args.word) c.requires.start ∙ sym (load_at m t r own slot c.args.word next c.descriptor_spot-spot.result (c.descriptor_spot-spot.ensures ∙ sym there) c.args.descriptor there))
 
 pub invariant_of-runner : goal.invariant_of-runner
@@ -35,7 +35,7 @@ invariant_of-runner g c =
     let seat = c.runner.inside.seat in let new = c.load_at-found.new.seat in
     let own = subst (λ r. IsOf t r) (sym c.runner.view_is) c.requires.own in
     let next = subst (IsEnabled m (PrivateLoad slot c.args.word)) (sym c.runner.view_is) c.requires.next in
-    let made = load_event m t (seen_seat seat.table_id seat.me) own slot c.args.word next c.descriptor_spot-spot.result (c.descriptor_spot-spot.ensures ∙ sym (descriptor_there m t.layout c.args.descriptor c.args.word))
+    let made = load_event m t (seen_seat seat.table_id seat.me) own slot c.args.word next c.descriptor_spot-spot.result (c.descriptor_spot-spot.ensures ∙ sym (descriptor_there m t.layout c.args.descriptor c.args.word c.requires.few))
     c.load_at-found.result (seen_seat new.table_id new.me) c.load_at-found.ensures.event in
     let past : slot_count seat.me.0.layout m.fixed_slots ≤ slot = subst (λ (l : Layout). slot_count l m.fixed_slots ≤ slot) (sym own.layout) (omega arith) in
     load_kept_of mean t.structure slot c.args.word c.load_at-found.result c.runner.inside.number c.runner.inside.kept.value seat.table_id new.table_id seat.me new.me own.structure made c.load_at-found.ensures.slots c.runner.invariant past
@@ -46,6 +46,6 @@ returns-clause-event g c =
     let seat = c.runner.inside.seat in let new = c.load_at-found.new.seat in
     let own = subst (λ r. IsOf t r) (sym c.runner.view_is) c.requires.own in
     let next = subst (IsEnabled m (PrivateLoad slot c.args.word)) (sym c.runner.view_is) c.requires.next in
-    let made = load_event m t (seen_seat seat.table_id seat.me) own slot c.args.word next c.descriptor_spot-spot.result (c.descriptor_spot-spot.ensures ∙ sym (descriptor_there m t.layout c.args.descriptor c.args.word))
+    let made = load_event m t (seen_seat seat.table_id seat.me) own slot c.args.word next c.descriptor_spot-spot.result (c.descriptor_spot-spot.ensures ∙ sym (descriptor_there m t.layout c.args.descriptor c.args.word c.requires.few))
     c.load_at-found.result (seen_seat new.table_id new.me) c.load_at-found.ensures.event in
     subst (λ r. Makes m (PrivateLoad slot c.args.word) c.load_at-found.result r (seen_seat new.table_id new.me)) c.runner.view_is made

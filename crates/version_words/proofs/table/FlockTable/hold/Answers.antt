@@ -4,7 +4,7 @@ use Rattle.machine_states.specs.table_words.specs.Limits.{IsWithinLimits}
 use Rattle.machine_states.specs.runner_parts.specs.declared.event.EventKind.TheVariants.{Hold}
 use Rattle.machine_states.specs.epoch_core.specs.Lists.{times}
 use Rattle.runner_block.specs.declared.block.Block.{Block}
-use Rattle.runner_block.specs.Kept.{held_in, with_part}
+use Rattle.runner_block.specs.Kept.{held_in, with_part, with_blocks, given_back_if}
 use Rattle.version_words.specs.Kept.{IsKept}
 use Rattle.version_words.specs.Events.{IsEnabled, Makes, seen_seat}
 use Rattle.version_words.proofs.Holds.{can_publish, hold_event, hold_named, hold_kept, none_here, once_here}
@@ -33,7 +33,7 @@ invariant_of-runner g c =
     subst (λ (b : Block). IsKept mean number (record b { lists = c.hold.new.self }) new.me) (sym c.deref_mut.ensures.value)
     (hold_kept mean c.args.self.now.structure t d found number kept seat.table_id new.table_id seat.me new.me (ap (λ r. r.structure) c.runner.view_is ∙ c.requires.own.structure) event c.exchange_with-found.ensures.slots c.runner.invariant
     (found == c.bits-3.result) c.hold.new.self (ap (λ n. found == n) c.bits-3.ensures.number)
-    (c.hold.ensures ∙ ap (λ (b : Block). with_part b.lists (held_in b.lists.part d (found == c.bits-3.result))) c.deref_mut.ensures.value))
+    (c.hold.ensures ∙ ap (λ (b : Block). with_blocks (with_part b.lists (held_in b.lists.part d (found == c.bits-3.result))) (given_back_if (found == c.bits-3.result) d b.lists.blocks)) c.deref_mut.ensures.value))
 
 pub returns-clause-event : goal.returns-clause-event
 returns-clause-event g c =

@@ -1,15 +1,11 @@
-use Rattle.std.proofs.Common.{length, ◌≤◌, arith, refl, sym, subst, ap, ◌∙◌}
+use Rattle.std.proofs.Common.{length, ◌≤◌, arith, sym, subst, ap, ◌∙◌}
 use Rattle.machine_states.specs.table_words.specs.declared.layout.Layout.{Layout}
 use Rattle.machine_states.specs.runner_parts.specs.declared.event.EventKind.TheVariants.{LoadGuard}
 use Rattle.machine_states.specs.runner_parts.specs.State.{PartState}
-use Rattle.machine_states.specs.runner_steps.specs.Guards.{load_guard_after}
 use Rattle.runner_block.specs.declared.block.Block.{Block}
-use Rattle.runner_block.specs.Kept.{with_part}
 use Rattle.version_words.specs.Kept.{IsKept}
 use Rattle.version_words.specs.Events.{IsEnabled, Makes, seen_seat}
-use Rattle.version_words.proofs.GuardSteps.{next_guard, look_named, look_event}
-use Rattle.version_words.proofs.Told.{told_load_guard}
-use Rattle.version_words.proofs.Keeps.{lists_kept}
+use Rattle.version_words.proofs.GuardSteps.{next_guard, look_named, look_event, look_kept, swept_lists}
 use Rattle.version_words.proofs.table.FlockTable.load_guard.Goals as goal
 
 pub load-found-requires-clause-named : goal.load-found-requires-clause-named
@@ -40,10 +36,9 @@ invariant_of-runner g c =
     let event = look_event (mean s) (seen_seat seat.table_id seat.me) n next found (seen_seat new.table_id new.me) c.load-found.ensures.event in
     let same_layout = sym (ap (λ r. r.layout) c.runner.view_is ∙ (c.requires.own.layout ∙ ap (λ t. t.layout) (sym c.self.view_is))) in
     subst (λ (b : Block). IsKept mean number (record b { lists = c.load_guard.new.self }) new.me) (sym c.deref_mut.ensures.value)
-    (lists_kept mean s (LoadGuard n) found number kept seat.table_id new.table_id seat.me new.me (ap (λ r. r.structure) c.runner.view_is ∙ c.requires.own.structure) event c.load-found.ensures.slots c.runner.invariant refl
-    c.load_guard.new.self (λ p. load_guard_after seat.me.0.layout p found)
-    (c.load_guard.ensures ∙ (λ i. let b = c.deref_mut.ensures.value i in with_part b.lists (load_guard_after (same_layout i) b.lists.part found)))
-    (told_load_guard seat.me.0.layout seat.me.0.part found))
+    (look_kept mean s n found number kept seat.table_id new.table_id seat.me new.me (ap (λ r. r.structure) c.runner.view_is ∙ c.requires.own.structure) event c.load-found.ensures.slots c.runner.invariant
+    c.load_guard.new.self
+    (c.load_guard.ensures ∙ (λ i. let b = c.deref_mut.ensures.value i in swept_lists (same_layout i) b.lists found)))
 
 pub returns-clause-event : goal.returns-clause-event
 returns-clause-event g c =

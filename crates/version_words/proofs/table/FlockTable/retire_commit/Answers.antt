@@ -1,4 +1,4 @@
-use Rattle.std.proofs.Common.{◌≡◌, ℕ, ◌<◌, Some, ap, sym, subst, ◌∙◌, ◌+◌, if◌then◌else◌}
+use Rattle.std.proofs.Common.{◌≡◌, ℕ, ◌<◌, ◌≤◌, Some, refl, ap, sym, subst, ◌∙◌, ◌+◌, if◌then◌else◌}
 use Rattle.std.specs.Prelude.{◌==◌}
 use Rattle.machine_states.specs.table_words.specs.Limits.{IsWithinLimits}
 use Rattle.machine_states.specs.table_words.specs.Access.{written}
@@ -7,15 +7,41 @@ use Rattle.machine_states.specs.runner_parts.specs.declared.event.EventKind.TheV
 use Rattle.machine_states.specs.runner_parts.specs.Lists.{slot_retired}
 use Rattle.runner_block.specs.declared.block.Block.{Block}
 use Rattle.runner_block.specs.Room.{AreFew}
-use Rattle.version_words.specs.Place.{next_log}
+use Rattle.version_words.specs.Place.{next_log, KnowsPart, kept_log}
 use Rattle.runner_block.specs.Blocks.{block_slot_retired}
 use Rattle.version_words.specs.Kept.{IsKept}
 use Rattle.version_words.specs.Events.{met_by, Makes, seen_seat}
 use Rattle.machine_invariant.specs.After.{AreAllowed}
 use Rattle.version_words.proofs.Bounds.{few_seen}
-use Rattle.version_words.proofs.RetireSteps.{retire_low, retire_room, retire_kept, retire_found}
+use Rattle.version_words.proofs.NextWords.{part_begins, next_named, next_apart}
+use Rattle.version_words.proofs.RetireSteps.{retire_run, retire_low, retire_room, retire_kept, retire_found}
 use Rattle.version_words.proofs.table.FlockTable.retire_commit.Goals as goal
 use Rattle.version_words.proofs.Shows.{seen_then}
+
+pub next_spot-spot-requires : goal.next_spot-spot-requires
+next_spot-spot-requires g c =
+    let mean = g.S.Structure.meaning in let s = c.args.self.now.structure in let seat = c.runner.inside.seat in let r = seen_seat seat.table_id seat.me in
+    let next = subst (λ r. met_by (mean s) r RetireCommit ≡ Some (next_log r.part.run, Exchanges 0 (c.args.slot + 1))) (sym c.runner.view_is) c.requires.next in
+    let run = retire_run (mean s) (next_log r.part.run) c.args.slot seat.table_id seat.me next in
+    subst (λ (b : Block). b.lists.blocks.links.start ≤ b.place.agreed) (sym c.deref.ensures) (part_begins mean c.runner.inside.number c.runner.inside.kept.value seat.table_id seat.me c.runner.invariant run.0 run.1)
+
+pub exchange-found-requires-clause-named : goal.exchange-found-requires-clause-named
+exchange-found-requires-clause-named g c =
+    let mean = g.S.Structure.meaning in let s = c.args.self.now.structure in let seat = c.runner.inside.seat in let r = seen_seat seat.table_id seat.me in
+    let next = subst (λ r. met_by (mean s) r RetireCommit ≡ Some (next_log r.part.run, Exchanges 0 (c.args.slot + 1))) (sym c.runner.view_is) c.requires.next in
+    let run = retire_run (mean s) (next_log r.part.run) c.args.slot seat.table_id seat.me next in
+    let linked = subst (λ r. KnowsPart r.part.run) (sym c.runner.view_is) c.requires.linked in
+    let is = c.next_spot-spot.ensures ∙ ap (λ (b : Block). kept_log b.place b.lists.blocks.links) c.deref.ensures in
+    λ κs lives. next_named mean c.runner.inside.number c.runner.inside.kept.value seat.table_id seat.me c.runner.invariant run.0 run.1 linked c.next_spot-spot.result is (mean s) RetireCommit c.args.self.now (c.args.slot + 1) refl next
+
+pub exchange-found-requires-clause-apart : goal.exchange-found-requires-clause-apart
+exchange-found-requires-clause-apart g c =
+    let mean = g.S.Structure.meaning in let s = c.args.self.now.structure in let seat = c.runner.inside.seat in let r = seen_seat seat.table_id seat.me in
+    let next = subst (λ r. met_by (mean s) r RetireCommit ≡ Some (next_log r.part.run, Exchanges 0 (c.args.slot + 1))) (sym c.runner.view_is) c.requires.next in
+    let run = retire_run (mean s) (next_log r.part.run) c.args.slot seat.table_id seat.me next in
+    let linked = subst (λ r. KnowsPart r.part.run) (sym c.runner.view_is) c.requires.linked in
+    let is = c.next_spot-spot.ensures ∙ ap (λ (b : Block). kept_log b.place b.lists.blocks.links) c.deref.ensures in
+    λ κs lives. next_apart mean c.runner.inside.number c.runner.inside.kept.value seat.table_id seat.me c.runner.invariant run.0 run.1 linked c.next_spot-spot.result is
 
 pub slot_retired-requires-clause-room : goal.slot_retired-requires-clause-room
 slot_retired-requires-clause-room g c = λ won.
@@ -32,10 +58,15 @@ slot_retired-requires-clause-room g c = λ won.
 
 pub slot_retired-requires-clause-few : goal.slot_retired-requires-clause-few
 slot_retired-requires-clause-few g c =
-    let mean = g.S.Structure.meaning in let s = c.args.self.now.structure in let seat = c.runner.inside.seat in
+    let mean = g.S.Structure.meaning in let s = c.args.self.now.structure in let seat = c.runner.inside.seat in let new = c.exchange-found.new.seat in let tells = c.exchange-found.ensures in
+    let r = seen_seat seat.table_id seat.me in
     let next = subst (λ r. met_by (mean s) r RetireCommit ≡ Some (next_log r.part.run, Exchanges 0 (c.args.slot + 1))) (sym c.runner.view_is) c.requires.next in
+    let met = g.met.S.Structure g.world.𝓛 g.world.𝓜 g.world.𝓡 ((λ s allowed. allowed), (λ patient. patient), (λ alone. alone), (λ cuts. cuts)) in
+    let limits = subst IsWithinLimits (sym (tells.own.layout ∙ ap (λ t. t.layout) (sym c.self.view_is))) c.self.invariant.limits in
+    let requests = subst AreAllowed (sym (tells.own.requests ∙ ap (λ t. t.requests) (sym c.self.view_is))) c.self.invariant.allowed in
     subst (λ (b : Block). b.place.agreed < 64) (sym c.deref_mut.ensures.value)
-    (retire_low mean s c.args.slot c.runner.inside.number c.runner.inside.kept.value seat.table_id seat.me next c.runner.invariant)
+    (retire_low mean s (next_log r.part.run) c.args.slot c.runner.inside.number c.runner.inside.kept.value seat.table_id seat.me (ap (λ r. r.structure) c.runner.view_is ∙ c.requires.own.structure) next c.runner.invariant
+    c.exchange-found.result new.table_id new.me tells.event tells.slots (met.laws s) limits requests)
 
 pub invariant_of-runner : goal.invariant_of-runner
 invariant_of-runner g c =
