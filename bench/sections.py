@@ -3,7 +3,7 @@
 
 Usage: bench/sections.py [PROGRAM]     (default: crates/speed/out/speed, made by `rt run` in crates/speed)
 
-It wants rustc. A section is one request's: the entry, the load of the lock, the publication (78 loads, what differs is stored, a guard word, one exchange),
+It wants rustc. A section is one request's: the entry, the load of the lock, the publication (21 loads, what differs is stored, a guard word, one exchange),
 the run (22 steps), the end of the guard and of the entry, all by one worker on one thread. Each table serves eight sections, or one: so the difference is
 that of seven sections, and what a process and a table need to begin and to end isn't counted. Of each the least processor time of several runs,
 by both programs in turn, is taken; both must print the same.

@@ -7,10 +7,13 @@ use std::hint::black_box;
 use std::sync::atomic::AtomicU64;
 use std::sync::atomic::Ordering::SeqCst;
 
-const DESCRIPTOR: usize = 78;
+const DESCRIPTOR: usize = 21;
+const BLOCK: usize = 8;
 const DONE: usize = 12;
 const LOG: usize = 13;
 const SECTIONS: usize = 8;
+// The worker's and the keeper's.
+const BLOCKS: usize = 8 * SECTIONS + 16;
 const REQUESTS: usize = 8;
 const NUMBER: u64 = 7;
 const REPLY: u64 = 1 << 32;
@@ -51,11 +54,11 @@ struct Worker {
 }
 
 impl Table {
-    // One worker and the keeper, with an announcement and a guard word each, 20 cells, and the descriptors.
+    // One worker and the keeper, with an announcement and a guard word each, 20 cells, the descriptors, and the blocks.
     fn new() -> Table {
         let (entries, cells) = (7, 7 + 2 * REQUESTS);
         let descriptors = cells + 43;
-        let words: Vec<AtomicU64> = (0..descriptors + DESCRIPTOR * SECTIONS).map(|_| AtomicU64::new(0)).collect();
+        let words: Vec<AtomicU64> = (0..descriptors + DESCRIPTOR * SECTIONS + BLOCK * BLOCKS).map(|_| AtomicU64::new(0)).collect();
         words[1].store(1, SeqCst);
         for cell in cells..descriptors {
             words[cell].store(1 << 32, SeqCst);

@@ -10,8 +10,8 @@ use std::sync::atomic::Ordering::SeqCst;
 // How many runners announce and guard, the keeper among them; the number of the first descriptor among all slots, and how many words it has.
 const RUNNERS: usize = 3;
 const SLOT: usize = 10;
-const DESCRIPTOR: usize = 78;
-const WORDS: usize = 376;
+const DESCRIPTOR: usize = 21;
+const WORDS: usize = 532;
 
 struct Words {
     words: &'static [AtomicU64],

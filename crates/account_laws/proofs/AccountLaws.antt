@@ -19,7 +19,7 @@ use Rattle.runner_parts.specs.structure_laws.specs.Keeps.{Keeps}
 use Rattle.runner_parts.specs.structure_laws.specs.Gives.{GivesLaw}
 use Rattle.runner_parts.specs.structure_laws.specs.Laws.{IsFirst, Laws}
 use Rattle.runner_parts.specs.structure_laws.proofs.Changes.{upd_same, upd_other, value_small, equal_of, both_true}
-use Rattle.runner_parts.specs.structure_laws.proofs.Costs.{shaped_cost}
+use Rattle.runner_parts.specs.structure_laws.proofs.Costs.{brief_cost}
 use Rattle.shared_laws.specs.Nodeless.{NoneLive}
 use Rattle.shared_laws.proofs.Numbers.{pair_read, lt_true, lt_false, eq_true, eq_false}
 use Rattle.account_laws.specs.Accounts.{lock_of, balance_of, upper_word, lower_in, upper_in, transfer_body, money, accounts_of}
@@ -88,7 +88,7 @@ module _ (accounts opening : ℕ) where
     pub transfer_shaped : Shaped m layout readings t
     transfer_shaped = record {
       shape = shape_own accounts layout.version_max readings t fit;
-      brief = shaped_cost (transfer_body accounts t) (shape_own accounts layout.version_max readings t fit);
+      brief = brief_cost (transfer_body accounts t) (shape_own accounts layout.version_max readings t fit) (omega arith);
       outer_lock = ap m.is_lock fit.lock ∙ (lock_there accounts lower lower_low).1;
       outer_known = inl (subst (λ p. p < 2 * accounts) (sym fit.lock) (lock_there accounts lower lower_low).0);
       take_lock = λ j l w h. ap m.is_lock (take_at lower upper t j l w h).1 ∙ (lock_there accounts upper fit.low).1;

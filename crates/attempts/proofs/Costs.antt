@@ -1,13 +1,12 @@
--- What a run costs at most, whatever its body.
+-- What a run of a structure's section costs at most.
 use Rattle.std.proofs.Common.{ℕ, ◌≤◌, Bool, List, length, sym, ap, ◌∙◌, arith, subst, inl, inr, zero, suc}
-use Rattle.machine_states.specs.body_terms.specs.Shape.{IsShaped}
+use Rattle.machine_states.specs.body_terms.specs.Cost.{run_cost}
 use Rattle.machine_states.specs.body_terms.specs.Trail.{Agreed}
 use Rattle.machine_states.specs.body_terms.specs.declared.outcome.Outcome.{Outcome}
 use Rattle.machine_states.specs.body_terms.specs.declared.thunk.Thunk.{Thunk}
 use Rattle.machine_states.specs.table_words.specs.Limits.{IsWithinLimits}
 use Rattle.machine_states.specs.structure_laws.specs.Meaning.{Meaning}
 use Rattle.machine_states.specs.structure_laws.specs.Laws.{Laws}
-use Rattle.machine_states.specs.structure_laws.proofs.Costs.{shaped_cost}
 use Rattle.machine_states.specs.runner_parts.specs.State.{RunState, PartState}
 use Rattle.machine_states.specs.runner_steps.specs.Sections.{thunk_of}
 use Rattle.machine_states.specs.Sight.{part_or_first}
@@ -17,30 +16,27 @@ use Rattle.version_words.specs.RunnerState.{RunnerState}
 use Rattle.version_words.specs.TableState.{TableState, IsOf}
 use Rattle.caller_facts.specs.section_runs.specs.Reached.{run_of, run_or}
 use Rattle.caller_facts.specs.section_runs.specs.Opened.{opening, IsOpening, HasOpened}
-use Rattle.caller_facts.specs.section_runs.proofs.Blocks.{no_links}
-use Rattle.caller_facts.specs.section_runs.proofs.Going.{shaped}
+use Rattle.caller_facts.specs.section_runs.proofs.Going.{brief}
 use Rattle.caller_facts.specs.try_lock.specs.Ends.{EndsSo, IsCutShort}
 use Rattle.attempts.specs.Attempts.{most_of_run}
 use Rattle.attempts.proofs.Along.{ran_back}
 
 module _ {T : Type 0} (m : Meaning) (laws : Laws m) (t : TableState T) (limits : IsWithinLimits t.layout) (allowed : AreAllowed t.requests)
     (old new : RunnerState T) (own : IsOf t new) where
-  -- the body of a run that was opened has the shape
-  opened_shaped : (d : ℕ) (thunk : Thunk) (late : Bool) (opened : RunnerState T) → IsOf t opened → HasOpened m d thunk late old opened
-      → IsShaped (m.body thunk)
-  opened_shaped d thunk late opened own_opened is =
-      subst (λ (x : Thunk). IsShaped (m.body x)) is.thunk
-      (subst (λ (q : RunState). IsShaped (m.body (thunk_of q.opened))) (ap run_or is.run)
-      (shaped m laws t limits allowed opened own_opened (run_of opened) is.inside))
+  -- the body of a run that was opened costs few steps
+  opened_brief : (d : ℕ) (thunk : Thunk) (late : Bool) (opened : RunnerState T) → IsOf t opened → HasOpened m d thunk late old opened
+      → run_cost (m.body thunk) ≤ most_of_run
+  opened_brief d thunk late opened own_opened is =
+      subst (λ (x : Thunk). run_cost (m.body x) ≤ most_of_run) is.thunk
+      (subst (λ (q : RunState). run_cost (m.body (thunk_of q.opened)) ≤ most_of_run) (ap run_or is.run)
+      (brief m laws t limits allowed opened own_opened (run_of opened) is.inside))
 
   pub ended_costs : (d : ℕ) (thunk : Thunk) (outcome : Outcome) (trail : Agreed) (made : ℕ) → EndsSo m d thunk outcome trail made old new
       → made ≤ most_of_run
   ended_costs d thunk outcome trail made ends =
       let few = ends.few in
-      let shape = opened_shaped d thunk trail.late ends.opened (ran_back m t ends.count ends.opened new ends.ran own) ends.opening in
-      let cost = shaped_cost (m.body thunk) shape in
-      let links = no_links (m.body thunk) shape in
-      omega (arith, few, cost, links)
+      let cost = opened_brief d thunk trail.late ends.opened (ran_back m t ends.count ends.opened new ends.ran own) ends.opening in
+      omega (arith, few, cost)
 
   opening_costs : (made d : ℕ) (words : List ℕ) → IsOpening m made d words old new → made ≤ most_of_run
   opening_costs zero d words is = omega arith
@@ -55,7 +51,5 @@ module _ {T : Type 0} (m : Meaning) (laws : Laws m) (t : TableState T) (limits :
   cut_costs d made (inl opening) = opening_costs made d opening.0 opening.1
   cut_costs d made (inr ran) =
       let few = ran.few in
-      let shape = opened_shaped d ran.thunk ran.late ran.opened (ran_back m t ran.count ran.opened new ran.ran own) ran.opening in
-      let cost = shaped_cost (m.body ran.thunk) shape in
-      let links = no_links (m.body ran.thunk) shape in
-      omega (arith, few, cost, links)
+      let cost = opened_brief d ran.thunk ran.late ran.opened (ran_back m t ran.count ran.opened new ran.ran own) ran.opening in
+      omega (arith, few, cost)

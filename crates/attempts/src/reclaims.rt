@@ -100,8 +100,7 @@ fn refill<S: Structure>(table: &FlockTable<S>, runner: Runner<S>) -> Runner<S>
     collect_where(table, runner, lacking)
 }
 
-/// Whether no descriptor is free, or fewer blocks than an attempt may want. As long as that is none, only the first is
-/// looked at.
+/// Whether no descriptor is free, or fewer blocks than an attempt may want.
 #[inline(always)]
 fn needs_sweep<S: Structure>(runner: &Runner<S>) -> bool
     ensures { result ≡ needs_sweep runner.now }

@@ -3,13 +3,14 @@ use Rattle.std.proofs.Common.{◌≡◌, ℕ, ◌+◌, ◌*◌, ◌≤◌, List,
 use Rattle.std.specs.Prelude.{sum_by, count_by, cond}
 use Rattle.std.proofs.lemmas.List.{take_all, take-append-drop, length-append}
 use Rattle.std.proofs.lemmas.List.Sums.{sum_by-cons, sum_by-append, sum_by-take-le}
-use Rattle.body_terms.specs.Cost.{step_cost, cost_of, steps_to}
-use Rattle.body_terms.specs.Line.{Registers, no_registers, registers_after, micros, line, line_from, is_event, release_of, releases}
+use Rattle.body_terms.specs.Cost.{step_cost, cost_of, body_words, steps_to}
+use Rattle.body_terms.specs.Line.{Registers, no_registers, registers_after, registers_through, log_words, micros, line, line_from, is_event, release_of, releases}
 use Rattle.body_terms.specs.Shape.{is_take}
 use Rattle.body_terms.specs.declared.micro.Micro.{Micro}
 use Rattle.body_terms.specs.declared.micro.Micro.TheVariants as kinds
 use Rattle.body_terms.specs.declared.step.Step.{Step}
 use Rattle.body_terms.specs.declared.step.Step.TheVariants.{Load, Want, Fresh, Take, Make, Stamp, Store, Retire, Answer}
+use Rattle.body_terms.proofs.LineLemmas.{count_after, log_words_le}
 
 -- no step has more than the eleven atomic steps of a Make
 pub step_cost_le : (step : Step) → step_cost step ≤ 11
@@ -27,6 +28,24 @@ step_cost_le (Answer reply) = omega arith
 pub steps_cost_le : (steps : List Step) → sum_by step_cost steps ≤ 11 * length steps
 steps_cost_le [] = omega arith
 steps_cost_le (step ∷ steps) = grind (arith, sum_by-cons step_cost step steps, step_cost_le step, steps_cost_le steps)
+
+-- and commit at most twice as many words
+pub steps_words_le : (steps : List Step) → sum_by log_words steps ≤ 2 * length steps
+steps_words_le [] = omega arith
+steps_words_le (step ∷ steps) = grind (arith, sum_by-cons log_words step steps, log_words_le step, steps_words_le steps)
+
+words_through : (g : Registers) (steps : List Step) → (registers_through g steps).count ≡ g.count + sum_by log_words steps
+words_through g [] = omega arith
+words_through g (step ∷ steps) =
+    let rest = words_through (registers_after g step) steps in
+    let next = count_after g step in
+    let all = sum_by-cons log_words step steps in omega (arith, rest, next, all)
+
+-- the words on which a run agrees are those that its steps commit
+pub words_in : (body : List Step) → body_words body ≡ sum_by log_words body
+words_in body =
+    let whole = ap (λ (steps : List Step). (registers_through no_registers steps).count) (take_all (length body) body (omega arith)) in
+    let all = words_through no_registers body in omega (arith, whole, all)
 
 -- the events among the atomic steps of a step are its cost
 micros_events : (g : Registers) (step : Step) → count_by is_event (micros g step) ≡ step_cost step

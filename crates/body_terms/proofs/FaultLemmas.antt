@@ -4,8 +4,8 @@ use Rattle.std.proofs.lemmas.Bool.{cases_eq}
 use Rattle.std.proofs.lemmas.Bool.Decides.{nat_tests}
 use Rattle.std.specs.Prelude.{Bool, true, false, ◌||◌, ◌==◌}
 use Rattle.std.specs.List.{list_any}
-use Rattle.small_lemmas.proofs.Bools.{or_true}
-use Rattle.small_lemmas.proofs.Numbers.{self_tested as same_test}
+use Rattle.block_words.specs.table_words.specs.small_lemmas.proofs.Bools.{or_true}
+use Rattle.block_words.specs.table_words.specs.small_lemmas.proofs.Numbers.{self_tested as same_test}
 use Rattle.body_terms.specs.Line.{Registers, no_registers, registers_after, registers_through, registers_before}
 use Rattle.body_terms.specs.Fault.{places_of, stored_places}
 use Rattle.body_terms.specs.declared.value.Value.{Value}

@@ -6,8 +6,8 @@ use Rattle.std.proofs.lemmas.Bool.{cases_eq, cases_lt}
 use Rattle.std.proofs.lemmas.List.Sums.{sum_by-cons, sum_by-take-le}
 use Rattle.std.proofs.lemmas.Bool.Decides.{nat_tests}
 use Rattle.std.proofs.lemmas.Option.{slice_get_within, slice_get_past}
-use Rattle.small_lemmas.proofs.Bools.{neither_of as both, not_true}
-use Rattle.small_lemmas.proofs.Numbers.{self_tested as same_test}
+use Rattle.block_words.specs.table_words.specs.small_lemmas.proofs.Bools.{neither_of as both, not_true}
+use Rattle.block_words.specs.table_words.specs.small_lemmas.proofs.Numbers.{self_tested as same_test}
 use Rattle.body_terms.specs.Line.{no_registers}
 use Rattle.body_terms.specs.Shape.{phase, is_make, is_stamp, is_answer, used_values, set_registers, IsStep, SetBefore, store_place, IsShaped}
 use Rattle.body_terms.specs.Fault.{loads_into, makes_into, tests_version, is_set, is_settable, phase_before, is_second, is_untested, stored_places, is_stored_again, step_fault, end_fault, step_or_end_fault, fault_at, IsFirstFault}

@@ -10,3 +10,5 @@ pub mod Shape
 pub mod Trail
 pub mod Update
 pub mod Word
+-- Passed on to the layers above, so that they needn't name these libraries themselves.
+pub use Rattle.block_words

@@ -35,3 +35,6 @@ pub use thunk::Thunk;
 pub use trail::Trail;
 pub use value::{Init, Value};
 pub use word::{Place, Word};
+
+// Passed on to the layers above, so that they needn't name these libraries themselves.
+pub use block_words;

@@ -2,7 +2,7 @@
 use Rattle.std.proofs.Common.{◌≡◌, ◌≢◌, ℕ, zero, suc, ◌+◌, ◌*◌, ◌<◌, ◌≤◌, Bool, true, false, cond, refl, sym, ap, ◌∙◌, subst}
 use Rattle.std.proofs.Common.{inl, inr, ⊎_elim, arith}
 use Rattle.std.specs.Prelude.{◌==◌, ◌&&◌, ◌-◌, ◌/◌, ◌%◌, ◌^◌, ◌⊎◌, not, nat_lt, Some, slice_get}
-use Rattle.std.specs.Prelude.{slice_index, length, Contains}
+use Rattle.std.specs.Prelude.{List, slice_index, length, Contains}
 use Rattle.std.specs.FinMap.{get, empty, get-empty}
 use Rattle.std.specs.Ordering.{nat_cmp}
 use Rattle.std.proofs.lemmas.Nat.{pow_pos, pow_below, shr_below}
@@ -19,6 +19,7 @@ use Rattle.bucket_bodies.specs.section_body.specs.Bucket.{bucket_index, bucket_h
 use Rattle.bucket_bodies.specs.Two.{higher_lock, target_lock, takes_lower}
 use Rattle.structure_laws.specs.body_terms.specs.Shape.{IsShaped}
 use Rattle.structure_laws.specs.body_terms.specs.declared.value.Value.{Value}
+use Rattle.structure_laws.specs.body_terms.specs.declared.step.Step.{Step}
 use Rattle.structure_laws.specs.body_terms.specs.declared.step.Step.TheVariants.{Load, Take, Make, Store, Answer}
 use Rattle.structure_laws.specs.body_terms.specs.declared.thunk.Thunk.{Thunk}
 use Rattle.structure_laws.specs.table_words.specs.declared.layout.Layout.{Layout}
@@ -32,7 +33,7 @@ use Rattle.structure_laws.specs.Shape.{Shaped}
 use Rattle.structure_laws.specs.InTurn.{InTurn}
 use Rattle.structure_laws.specs.Laws.{IsFirst, Laws}
 use Rattle.structure_laws.proofs.Changes.{upd_other}
-use Rattle.structure_laws.proofs.Costs.{shaped_cost}
+use Rattle.structure_laws.proofs.Costs.{brief_cost}
 use Rattle.bucket_laws.specs.Chain.{Chains}
 use Rattle.bucket_laws.specs.Walk.{AtEdition, AtLock, AtEnd, Walk, cell_at, form_for, operands_for}
 use Rattle.bucket_laws.specs.TwoWalk.{side_op}
@@ -53,7 +54,7 @@ use Rattle.bucket_laws.proofs.Places.{head_lock, one_slot}
 use Rattle.bucket_laws.proofs.TableGives.{live_free, retired_free, reached, table_gives}
 use Rattle.bucket_laws.proofs.TableKeeps.{lock_at, table_keeps}
 use Rattle.bucket_laws.proofs.TableShape.{read_shaped, insert_shaped, remove_shaped, set_shaped, look_two_shaped}
-use Rattle.bucket_laws.proofs.TableShape.{move_shaped, rename_shaped}
+use Rattle.bucket_laws.proofs.TableShape.{move_shaped, rename_shaped, few_steps}
 use Rattle.bucket_laws.proofs.TableTurn.{table_answers, table_stores}
 use Rattle.bucket_laws.proofs.TwoWalks.{side_facts}
 use Rattle.bucket_laws.proofs.WalkFacts.{Gives}
@@ -552,7 +553,7 @@ module _ (two : Bool) (buckets : ℕ) (bucket : ℕ → ℕ) (small : (key : ℕ
   pub table_shaped : Shaped (table two buckets bucket) layout readings thunk
   table_shaped = record {
     shape = shaped;
-    brief = shaped_cost (steps two thunk) shaped;
+    brief = brief_cost (steps two thunk) shaped (subst (λ (body : List Step). length body ≤ 23) (sym (steps_are two thunk)) (few_steps form thunk));
     outer_lock = is_lock_at thunk.lock outer.0 outer.1 outer.2;
     outer_known = inl (let low = outer.1 in let at = outer.2 in omega arith);
     take_lock = λ j l w h. let take = taken j l w h in let place = place_in take.0 take.1 in

@@ -2,7 +2,7 @@
 use Rattle.std.proofs.Common.{◌≡◌, ◌≢◌, ℕ, zero, suc, ◌+◌, ◌*◌, ◌<◌, ◌≤◌, cond, refl, sym, ap, ◌∙◌}
 use Rattle.std.proofs.Common.{subst, ⊎_elim, arith}
 use Rattle.std.proofs.lemmas.List.Elements.{All-nil, All-cons}
-use Rattle.std.specs.Prelude.{◌==◌, ◌^◌, ◌⊎◌, Some, List, [], ◌∷◌, All, Contains, nat_lt, slice_index_or}
+use Rattle.std.specs.Prelude.{◌==◌, ◌^◌, ◌⊎◌, Some, List, [], ◌∷◌, All, Contains, nat_lt, slice_index_or, length}
 use Rattle.structure_laws.specs.table_words.specs.small_lemmas.proofs.Lists.{some_same as some_inj}
 use Rattle.bucket_bodies.specs.section_body.specs.Bucket.{operand, read_steps, insert_steps, remove_steps}
 use Rattle.bucket_bodies.specs.Table.{set_steps}
@@ -15,7 +15,7 @@ use Rattle.structure_laws.specs.body_terms.specs.declared.step.Step.TheVariants.
 use Rattle.structure_laws.specs.body_terms.specs.declared.thunk.Thunk.{Thunk}
 use Rattle.structure_laws.specs.body_terms.specs.Shape.{IsShaped, IsStep, SetBefore, FreshBefore}
 use Rattle.structure_laws.specs.body_terms.specs.Shape.{phase, used_values, set_registers, store_place}
-use Rattle.bucket_laws.specs.Halves.{Form, Reads, Inserts, Removes, Sets, ReadsTwo, Moves, Renames, steps_of}
+use Rattle.bucket_laws.specs.Halves.{Form, Reads, Inserts, Removes, Sets, ReadsTwo, Moves, Renames, Empty, steps_of}
 use Rattle.bucket_laws.proofs.Halves.{half_in, step_in}
 
 -- what a step uses, where it is known which step it is
@@ -894,3 +894,14 @@ rename_shaped t apart = record {
   stored_once = λ i j a b v x lt h k e. let first = rename_store_at t i a v h in let second = rename_store_at t j b x k in
       two_apart 7 i j (rename_stored t) first.1 lt second.2 apart (sym first.0 ∙ e ∙ second.0);
 }
+
+-- a body has few steps
+pub few_steps : (f : Form) (t : Thunk) → length (steps_of f t) ≤ 23
+few_steps Reads t = omega arith
+few_steps Inserts t = omega arith
+few_steps Removes t = omega arith
+few_steps Sets t = omega arith
+few_steps ReadsTwo t = omega arith
+few_steps Moves t = omega arith
+few_steps Renames t = omega arith
+few_steps Empty t = omega arith

@@ -1,7 +1,7 @@
 -- The words of a block are made 0 one after the other, and then one exchange puts it into a link.
 use Rattle.std.proofs.Common.{◌≡◌, ℕ, ◌+◌, ◌-◌, ◌≤◌, ◌<◌, [], ◌∷◌, ◌++◌, length, length-append, true, false, refl, sym, ap, subst, ◌∙◌, arith, Option, Some, None}
 use Rattle.std.specs.Prelude.{◌/◌, ◌==◌, is_some, nat_lt, if◌then◌else◌}
-use Rattle.machine_states.specs.epoch_core.specs.small_lemmas.proofs.Numbers.{less_tested, not_less_tested}
+use Rattle.section_lines.specs.small_lemmas.proofs.Numbers.{less_tested, not_less_tested}
 use Rattle.machine_states.specs.body_terms.specs.Run.{written_once}
 use Rattle.machine_states.specs.body_terms.specs.Word.{value_of}
 use Rattle.machine_states.specs.table_words.specs.declared.layout.Layout.{Layout}

@@ -5,7 +5,7 @@ use Rattle.std.proofs.lemmas.Bool.Decides.{nat_tests}
 use Rattle.machine_states.specs.body_terms.specs.declared.micro.Micro.{Micro}
 use Rattle.machine_states.specs.table_words.specs.Places.{part_words}
 use Rattle.machine_states.specs.structure_laws.specs.Meaning.{Meaning}
-use Rattle.machine_states.specs.runner_parts.specs.block_words.specs.Blocks.{blocks_for}
+use Rattle.machine_states.specs.body_terms.specs.block_words.specs.Blocks.{blocks_for}
 use Rattle.machine_states.specs.runner_parts.specs.State.{RunState, PartState}
 use Rattle.machine_states.specs.runner_steps.specs.InRun.{make_slot, last_of}
 use Rattle.machine_states.specs.runner_steps.specs.Sections.{next_of}

@@ -1,17 +1,13 @@
 -- Links: what a run does before it commits a word into a part of its log that isn't linked yet.
 use Rattle.std.specs.Prelude.{◌≡◌, ℕ, ◌+◌, ◌-◌, ◌*◌, ◌≤◌, Bool, false, length, Some, if◌then◌else◌}
-use Rattle.machine_states.specs.table_words.specs.Places.{block_words}
+pub use Rattle.machine_states.specs.body_terms.specs.Cost.{link_cost}
 use Rattle.machine_states.specs.structure_laws.specs.Meaning.{Meaning}
-use Rattle.machine_states.specs.runner_parts.specs.block_words.specs.Blocks.{blocks_for}
+use Rattle.machine_states.specs.body_terms.specs.block_words.specs.Blocks.{blocks_for}
 use Rattle.machine_states.specs.runner_parts.specs.State.{RunState, PartState}
 use Rattle.machine_states.specs.runner_steps.specs.Sections.{next_of, commits_to, is_beyond}
 use Rattle.version_words.specs.RunnerState.{RunnerState}
 use Rattle.next_steps.specs.Steps.{next_block, stock}
 use Rattle.commit_log.specs.Runs.{IsRunning}
-
--- a link takes so many steps: each word of the block is made 0, and then it is put into the link behind the last part
-abbrev pub link_cost : ℕ
-link_cost = block_words + 1
 
 -- so many steps at most a run makes to link the parts for so many more words of its log
 abbrev pub links_cost : ℕ → RunState → ℕ

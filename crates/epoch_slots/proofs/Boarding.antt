@@ -28,7 +28,7 @@ use Rattle.machine_states.specs.runner_steps.specs.Blocks.{blocks_outside}
 use Rattle.machine_states.specs.epoch_core.specs.Lists.{times}
 use Rattle.machine_states.specs.epoch_core.specs.declared.stage.Stage.TheVariants as stages
 use Rattle.version_words.specs.machine_invariant.specs.After.{AreAllowed}
-use Rattle.version_words.specs.machine_invariant.specs.machine_blocks.specs.machine_guards.specs.machine_agreement.specs.machine_epochs.proofs.BoardAsked as asked
+use Rattle.reached_histories.specs.machine_facts.specs.machine_agreement.specs.machine_epochs.proofs.BoardAsked as asked
 use Rattle.version_words.specs.RunnerState.{RunnerState}
 use Rattle.version_words.specs.Events.{IsEnabled, Makes, Tries}
 use Rattle.version_words.proofs.Asked.{outer}

@@ -27,17 +27,17 @@ hash 5 49|flock 1/trace/ins 5 70/del 5/|trace 0/0 new/- unserved/final 1/
 hash 50 79|flock 1/trace/ins 5 70/del 5/|trace 0/0 new/1 gone/final 0/
 tree 1 6|flock 1/trace/ins 5 70/del 5/|trace 0/- unserved/- unserved/final 0/
 tree 7 64|flock 1/trace/ins 5 70/del 5/|trace 0/0 new/- unserved/final 1/
-tree 65 108|flock 1/trace/ins 5 70/del 5/|trace 0/0 new/1 gone/final 0/
+tree 65 117|flock 1/trace/ins 5 70/del 5/|trace 0/0 new/1 gone/final 0/
 hash 5 48|flock 2/trace/put 5 70/put 5 80/|trace 0/0 new/- unserved/final 1/
 hash 49 76|flock 2/trace/put 5 70/put 5 80/|trace 0/0 new/1 was 70/final 1/
 tree 7 63|flock 2/trace/put 5 70/put 5 80/|trace 0/0 new/- unserved/final 1/
 tree 64 103|flock 2/trace/put 5 70/put 5 80/|trace 0/0 new/1 was 70/final 1/
 list 6 50|flock 2/trace/put 5 70/put 5 80/|trace 0/0 new/- unserved/final 1/
-list 51 101|flock 2/trace/put 5 70/put 5 80/|trace 0/0 new/1 was 70/final 1/
+list 51 110|flock 2/trace/put 5 70/put 5 80/|trace 0/0 new/1 was 70/final 1/
 hash 5 52|flock 3/trace/ins 1 10/mov 1 2/|trace 0/0 new/- unserved/final 1/
-hash 53 105|flock 3/trace/ins 1 10/mov 1 2/|trace 0/0 new/1 moved/final 1/
-hash 53 110|flock 3/trace/ins 1 10/mov 1 2/get 2/|trace 0/0 new/1 moved/- unserved/final 1/
-hash 111 134|flock 3/trace/ins 1 10/mov 1 2/get 2/|trace 0/0 new/1 moved/2 val 10/final 1/
+hash 53 114|flock 3/trace/ins 1 10/mov 1 2/|trace 0/0 new/1 moved/final 1/
+hash 53 119|flock 3/trace/ins 1 10/mov 1 2/get 2/|trace 0/0 new/1 moved/- unserved/final 1/
+hash 120 143|flock 3/trace/ins 1 10/mov 1 2/get 2/|trace 0/0 new/1 moved/2 val 10/final 1/
 hash 5 52|flock 3/trace/ins 1 10/mov 1 56/|trace 0/0 new/- unserved/final 1/
 hash 53 93|flock 3/trace/ins 1 10/mov 1 56/|trace 0/0 new/1 moved/final 1/
 hash 53 98|flock 3/trace/ins 1 10/mov 1 56/get 56/|trace 0/0 new/1 moved/- unserved/final 1/
@@ -123,7 +123,7 @@ const PAIRS: [Pair; 5] = [
     (
         "flock 2/trace/put 5 70/put 5 71/trace/put 5 80/get 5/",
         "--reads lock",
-        110,
+        120,
     ),
     (
         "flock 1/trace/ins 2 2/del 2/trace/ins 1 1/del 1/",
@@ -133,7 +133,7 @@ const PAIRS: [Pair; 5] = [
     (
         "flock 1/trace/ins 5 70/del 5/trace/get 5/get 5/",
         "--reads free",
-        110,
+        120,
     ),
     (
         "flock 1/trace/get 5/get 5/trace/ins 5 80/get 5/",
@@ -148,7 +148,7 @@ const MOVING: [Pair; 3] = [
     (
         "flock 3/trace/ins 1 10/mov 1 2/mov 2 1/get 1/get 2/get 3/get 4/trace/ins 3 30/mov 3 2/mov 1 3/mov 2 4/get 1/get 2/get 3/get 4/",
         "--buckets 64",
-        105,
+        114,
     ),
     (
         "flock 3/trace/ins 1 10/mov 1 2/mov 2 1/get 1/get 2/get 3/get 4/trace/ins 3 30/mov 3 2/mov 1 3/mov 2 4/get 1/get 2/get 3/get 4/",
@@ -158,7 +158,7 @@ const MOVING: [Pair; 3] = [
     (
         "flock 3/trace/ins 1 10/mov 1 2/mov 2 1/get 1/get 2/get 3/trace/get 1/get 2/mov 1 3/get 1/get 2/get 3/",
         "--buckets 4 --reads free",
-        105,
+        114,
     ),
 ];
 

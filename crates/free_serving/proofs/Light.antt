@@ -7,7 +7,9 @@ use Rattle.std.proofs.lemmas.List.Sums.{sum_by-cons}
 use Rattle.machine_states.specs.map_history.specs.declared.op.Op.{Op}
 use Rattle.machine_states.specs.map_history.specs.declared.op.Op.TheVariants.{Get}
 use Rattle.machine_states.specs.map_history.specs.declared.op.Request.{Request}
-use Rattle.machine_states.specs.body_terms.specs.Cost.{cost_of, step_cost}
+use Rattle.machine_states.specs.body_terms.specs.Cost.{step_cost, body_blocks, run_cost}
+use Rattle.machine_states.specs.body_terms.specs.Line.{log_words}
+use Rattle.machine_states.specs.body_terms.proofs.CostLemmas.{words_in}
 use Rattle.machine_states.specs.body_terms.specs.Shape.{is_look, is_take, IsShaped}
 use Rattle.machine_states.specs.body_terms.specs.Trail.{Agreed}
 use Rattle.machine_states.specs.body_terms.specs.declared.outcome.Outcome.{Outcome}
@@ -39,7 +41,6 @@ use Rattle.seq_read.specs.caller_facts.specs.try_lock.specs.declared.section.Sec
 use Rattle.seq_read.specs.caller_facts.specs.try_lock.specs.declared.planned.Planned.{Planned}
 use Rattle.seq_read.specs.caller_facts.specs.try_lock.specs.declared.planned.Planned.TheVariants as plans
 use Rattle.seq_read.specs.caller_facts.specs.lock_walks.specs.Gets.{GetsAreLight}
-use Rattle.seq_read.specs.caller_facts.specs.section_runs.proofs.Blocks.{no_links}
 use Rattle.seq_read.specs.caller_facts.specs.section_runs.specs.Reached.{run_of, run_or}
 use Rattle.seq_read.specs.caller_facts.specs.section_runs.specs.Opened.{opening, IsOpening, HasOpened}
 use Rattle.serving.specs.attempts.specs.Course.{HasPlanned, HasTried, IsRefused, refused_steps}
@@ -50,36 +51,45 @@ use Rattle.serving.specs.attempts.specs.declared.answers.Attempt.TheVariants as 
 use Rattle.seq_read.specs.caller_facts.proofs.Shapes.{allowed_at}
 use Rattle.serving.specs.Serving.{is_crossed}
 
--- a step that changes nothing costs little, and takes no lock
-look_step : (x : Step) → is_look x ≡ true → (step_cost x ≤ 3) × (◌≡◌ {A = ℕ} (cond (is_take x) 1 0) 0)
-look_step (kinds_of.Load place into) e = ((let few : 2 ≤ 3 = omega arith in few), refl)
-look_step (kinds_of.Want reg word) e = ((let few : 0 ≤ 3 = omega arith in few), refl)
-look_step kinds_of.Stamp e = ((let few : 3 ≤ 3 = omega arith in few), refl)
-look_step (kinds_of.Answer reply) e = ((let few : 1 ≤ 3 = omega arith in few), refl)
+-- a step that changes nothing costs little, takes no lock, and commits one word at most
+look_step : (x : Step) → is_look x ≡ true → (step_cost x ≤ 3) × (◌≡◌ {A = ℕ} (cond (is_take x) 1 0) 0) × (log_words x ≤ 1)
+look_step (kinds_of.Load place into) e = ((let few : 2 ≤ 3 = omega arith in few), refl, (let one : 1 ≤ 1 = omega arith in one))
+look_step (kinds_of.Want reg word) e = ((let few : 0 ≤ 3 = omega arith in few), refl, (let none : 0 ≤ 1 = omega arith in none))
+look_step kinds_of.Stamp e = ((let few : 3 ≤ 3 = omega arith in few), refl, (let none : 0 ≤ 1 = omega arith in none))
+look_step (kinds_of.Answer reply) e = ((let few : 1 ≤ 3 = omega arith in few), refl, (let none : 0 ≤ 1 = omega arith in none))
 look_step (kinds_of.Fresh reg) e = absurd (true≢false (sym e))
 look_step (kinds_of.Take place word) e = absurd (true≢false (sym e))
 look_step (kinds_of.Make init into) e = absurd (true≢false (sym e))
 look_step (kinds_of.Store reg value) e = absurd (true≢false (sym e))
 look_step (kinds_of.Retire slot) e = absurd (true≢false (sym e))
 
-look_steps : (body : List Step) → list_all is_look body ≡ true → (sum_by step_cost body ≤ 3 * length body) × (count_by is_take body ≡ 0)
-look_steps [] e = ((let few : 0 ≤ 3 * 0 = omega arith in few), refl)
+look_steps : (body : List Step) → list_all is_look body ≡ true
+    → (sum_by step_cost body ≤ 3 * length body) × (count_by is_take body ≡ 0) × (sum_by log_words body ≤ length body)
+look_steps [] e = ((let few : 0 ≤ 3 * 0 = omega arith in few), refl, (let none : 0 ≤ 0 = omega arith in none))
 look_steps (x ∷ body) e =
     let parts = and_parts (is_look x) (list_all is_look body) e in
     let rest = look_steps body parts.1 in
     let here = look_step x parts.0 in
     let costs : sum_by step_cost (x ∷ body) ≡ step_cost x + sum_by step_cost body = sum_by-cons step_cost x body in
+    let words : sum_by log_words (x ∷ body) ≡ log_words x + sum_by log_words body = sum_by-cons log_words x body in
     let takes : count_by is_take (x ∷ body) ≡ cond (is_take x) 1 0 + count_by is_take body = sum_by-cons (λ (y : Step). cond (is_take y) 1 0) x body in (
       (let more : sum_by step_cost (x ∷ body) ≤ 3 * suc (length body) = omega (arith, rest.0, here.0, costs) in more),
       omega (arith, rest.1, here.1, takes),
+      (let more : sum_by log_words (x ∷ body) ≤ suc (length body) = omega (arith, rest.2, here.2, words) in more),
     )
 
--- one run of such a body makes at most so many steps
+-- one run of such a body makes at most so many steps, with those that link four blocks
 abbrev pub most_of_look : ℕ
-most_of_look = 111
+most_of_look = 147
 
-look_cost : (body : List Step) → list_all is_look body ≡ true → length body ≤ 32 → cost_of body ≤ most_of_look
-look_cost body looks short = let each = look_steps body looks in let costs = each.0 in let takes = each.1 in omega (arith, costs, takes, short)
+look_cost : (body : List Step) → list_all is_look body ≡ true → length body ≤ 32 → run_cost body ≤ most_of_look
+look_cost body looks short =
+    let each = look_steps body looks in
+    let costs = each.0 in
+    let takes = each.1 in
+    let few = each.2 in
+    let words = words_in body in
+    let blocks : body_blocks body ≤ 4 = omega (arith, few, words, short) in omega (arith, costs, takes, blocks, short)
 
 -- the loads of a `get`'s walk, and such a run
 abbrev pub most_of_get : ℕ → ℕ
@@ -161,8 +171,7 @@ module _ {T : Type 0} (m : Meaning) (laws : Laws m) (planning : Planning) (gets 
         let opened = ends.opened in
         let shape = opened_shape m laws opened (limits_of opened ends.opening.stays.layout) (allowed_of opened ends.opening.stays.requests) here d thunk trail.late ends.opening in
         let cost = look_cost (m.body thunk) looks shape.short in
-        let links = no_links (m.body thunk) shape in
-        let few = ends.few in omega (arith, few, cost, links)
+        let few = ends.few in omega (arith, few, cost)
 
     cut_few : (made : ℕ) (new : RunnerState T) → IsCutShort m section.descriptor made here new → made ≤ most_of_look
     cut_few made new (inl is) = opening_few m laws new (limits_of new is.1.stays.layout) (allowed_of new is.1.stays.requests) made section.descriptor is.0 here is.1
@@ -175,8 +184,7 @@ module _ {T : Type 0} (m : Meaning) (laws : Laws m) (planning : Planning) (gets 
         let same : ran.thunk ≡ thunk = opened_own m laws opened limits_then allowed_then here section.descriptor ran.thunk ran.late ran.opening
         own.published own.own own.descriptor ∙ own.thunk in
         let cost = look_cost (m.body ran.thunk) (ap (λ (x : Thunk). list_all is_look (m.body x)) same ∙ looks) shape.short in
-        let links = no_links (m.body ran.thunk) shape in
-        let few = ran.few in omega (arith, few, cost, links)
+        let few = ran.few in omega (arith, few, cost)
 
     loads : length tried.readings ≤ 3 * slots m old.layout + 28
     loads = planned_few tried.readings (plans.Thunk thunk) tried.planned tried.plans

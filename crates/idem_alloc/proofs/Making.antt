@@ -14,7 +14,7 @@ use Rattle.section_lines.specs.structure_laws.specs.Laws.{Laws}
 use Rattle.runner_steps.specs.runner_parts.specs.declared.event.EventKind.TheVariants as kinds
 use Rattle.runner_steps.specs.runner_parts.specs.State.{RunState, NodesState}
 use Rattle.runner_steps.specs.runner_parts.specs.Lists.{slot_taken, slot_made, slot_back}
-use Rattle.runner_steps.specs.runner_parts.specs.block_words.specs.Blocks.{log_spot, blocks_for}
+use Rattle.runner_steps.specs.block_words.specs.Blocks.{log_spot, blocks_for}
 use Rattle.runner_steps.specs.InRun.{last_of}
 use Rattle.runner_steps.specs.Sections.{thunk_of, line_of, next_of, commits_to, needs_link}
 use Rattle.runner_steps.specs.AfterInRun.{agrees}

@@ -13,7 +13,7 @@ use Rattle.section_lines.specs.structure_laws.specs.Meaning.{Meaning}
 use Rattle.section_lines.specs.structure_laws.specs.Laws.{Laws}
 use Rattle.runner_steps.specs.runner_parts.specs.declared.event.EventKind.TheVariants as kinds
 use Rattle.runner_steps.specs.runner_parts.specs.State.{RunState, NodesState, BlocksState}
-use Rattle.runner_steps.specs.runner_parts.specs.block_words.specs.Blocks.{log_spot, blocks_for}
+use Rattle.runner_steps.specs.block_words.specs.Blocks.{log_spot, blocks_for}
 use Rattle.runner_steps.specs.runner_parts.specs.Lists.{slot_retired}
 use Rattle.runner_steps.specs.Sections.{thunk_of, line_of, next_of, commits_to, needs_link}
 use Rattle.runner_steps.specs.AfterInRun.{goes_on, agrees}

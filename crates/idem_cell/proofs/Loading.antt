@@ -10,7 +10,7 @@ use Rattle.machine_states.specs.table_words.specs.Limits.{IsWithinLimits}
 use Rattle.machine_states.specs.structure_laws.specs.Meaning.{Meaning}
 use Rattle.machine_states.specs.structure_laws.specs.Laws.{Laws}
 use Rattle.machine_states.specs.runner_parts.specs.State.{RunState, BlocksState}
-use Rattle.machine_states.specs.runner_parts.specs.block_words.specs.Blocks.{blocks_for}
+use Rattle.machine_states.specs.body_terms.specs.block_words.specs.Blocks.{blocks_for}
 use Rattle.machine_states.specs.runner_steps.specs.Sections.{thunk_of, line_of, next_of, commits_to}
 use Rattle.machine_states.specs.runner_steps.specs.AfterInRun.{goes_on, agrees}
 use Rattle.machine_epochs.proofs.RunPlaces.{next_in_line}

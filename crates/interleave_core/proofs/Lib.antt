@@ -1,3 +1,4 @@
 pub mod Enabled
 pub mod Local
+pub mod Logs
 pub mod Stops

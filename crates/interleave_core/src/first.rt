@@ -1,5 +1,5 @@
 //! What the runners are at in the first state.
-ghost use Rattle.std.specs.Prelude.{◌≡◌, ◌<◌, ◌+◌, ◌^◌, [], ◌∷◌, IfOk};
+ghost use Rattle.std.specs.Prelude.{◌≡◌, ◌<◌, ◌+◌, ◌^◌, ◌∷◌, IfOk};
 ghost use Rattle.machine_states.specs.table_words.specs.Limits.{IsWithinLimits};
 ghost use Rattle.machine_states.specs.First.{falling, first_part, keeper_part, worker_part, workers};
 
@@ -21,9 +21,9 @@ fn falling(alloc: Global, from: u32, count: u32) -> Result<Vec<u32>, AllocError>
     Ok(numbers)
 }
 
-/// A runner that has done nothing, with these free node slots and these free descriptors. The table has no blocks.
-fn first_part(alloc: Global, nodes: Vec<u32>, descriptors: Vec<u32>) -> Part
-    ensures { result ≡ first_part nodes.items descriptors.items [] }
+/// A runner that has done nothing, with these free node slots, descriptors and blocks.
+fn first_part(alloc: Global, nodes: Vec<u32>, descriptors: Vec<u32>, blocks: Vec<u32>) -> Part
+    ensures { result ≡ first_part nodes.items descriptors.items blocks.items }
 {
     Part {
         stage: Stage::Idle,
@@ -42,7 +42,7 @@ fn first_part(alloc: Global, nodes: Vec<u32>, descriptors: Vec<u32>) -> Part
             limbo: Vec::new(alloc),
         },
         blocks: Blocks {
-            free: Vec::new(alloc),
+            free: blocks,
             limbo: Vec::new(alloc),
         },
         guards: Guards {
@@ -90,11 +90,13 @@ fn keeper_part<S: Structure>(
         2 * workers + 2,
     )?;
     let descriptors = falling(alloc, layout.sections * workers, workers)?;
-    Ok(first_part(alloc, nodes, descriptors))
+    let before = layout.worker_blocks() * workers;
+    let blocks = falling(alloc, before, layout.keeper_blocks())?;
+    Ok(first_part(alloc, nodes, descriptors, blocks))
 }
 
 /// The part of this worker.
-#[tactic(auto, using(machine_states::proofs::Firsts::nodes_below, machine_states::proofs::Firsts::sections_below))]
+#[tactic(auto, using(machine_states::proofs::Firsts::nodes_below, machine_states::proofs::Firsts::sections_below, machine_states::proofs::Firsts::blocks_below))]
 pub fn worker_part<S: Structure>(
     alloc: Global,
     structure: &S,
@@ -111,7 +113,9 @@ pub fn worker_part<S: Structure>(
         layout.nodes,
     )?;
     let descriptors = falling(alloc, layout.sections * worker, layout.sections)?;
-    Ok(first_part(alloc, nodes, descriptors))
+    let own = layout.worker_blocks();
+    let blocks = falling(alloc, own * worker, own)?;
+    Ok(first_part(alloc, nodes, descriptors, blocks))
 }
 
 /// The parts of all runners, the keeper's first.

@@ -1,13 +1,14 @@
 //! The pure machine: the words of the table and what each runner is at and keeps, over any order of the
 //! runners' atomic steps.
 //!
-//! `machine` has the machine with its steps and readers, `first` its first state, `schedules` the machine
-//! after a list of events, `laws` what is said of every event and of every structure, and `tray` a
-//! structure for tests.
+//! `machine` has the machine with its steps and readers, `first` its first state, `log_words` the words of a log
+//! along its links, `schedules` the machine after a list of events, `laws` what is said of every event and of every
+//! structure, and `tray` a structure for tests.
 #![tactic(auto)]
 
 mod first;
 mod laws;
+mod log_words;
 mod machine;
 mod schedules;
 mod tray;

@@ -13,10 +13,12 @@ ghost use Rattle.machine_states.specs.First.{IsFirst};
 ghost use Rattle.machine_states.specs.Reached.{Reached};
 ghost use Rattle.interleave_core.specs.Enabled.{NamesEnabled};
 ghost use Rattle.interleave_core.specs.Machine.{IsSameTable, HasWord, is_live, word_of};
-ghost use Rattle.machine_states.specs.table_words.specs.declared.spot.Spot.TheVariants.{Epoch, Announcement, Cell, LogWord};
+ghost use Rattle.machine_states.specs.table_words.specs.declared.spot.Spot.TheVariants.{Epoch, Announcement, Cell};
+ghost use Rattle.machine_states.specs.body_terms.specs.block_words.specs.Blocks.{log_in};
 ghost use Rattle.interleave_core.specs.declared.machine.StepError.TheVariants.{NotEnabled};
 
 use crate::first::first_parts;
+use crate::log_words::log_word;
 use enabled_kinds::enabled;
 use enabled_kinds::runner_asks::asks;
 use machine_states::body_terms::{Place, Word};
@@ -303,16 +305,17 @@ impl<S: Structure> Machine<S> {
         Word::from_bits(self.word(Spot::Cell(place)))
     }
 
-    /// A word of this descriptor's log.
+    /// This word of a descriptor's log: in the part that the descriptor has, or in the block to which its links lead; 0
+    /// where no part that has it is linked.
     pub fn log_word(&self, descriptor: u32, index: u32) -> u64
-        requires { HasWord (S.meaning self.now.structure) self.now (LogWord descriptor index) }
-        ensures { result ≡ word_of (S.meaning self.now.structure) self.now (LogWord descriptor index) }
+        ensures { result ≡ log_in (word_of (S.meaning self.now.structure) self.now) descriptor index }
     {
-        self.word(Spot::LogWord(descriptor, index))
+        let sizes = sizes_for(&self.structure, self.layout, &self.requests);
+        log_word(&self.words, sizes, descriptor, index)
     }
 
     /// The word at this spot.
-    fn word(&self, spot: Spot) -> u64
+    pub fn word(&self, spot: Spot) -> u64
         requires { HasWord (S.meaning self.now.structure) self.now spot }
         ensures { result ≡ word_of (S.meaning self.now.structure) self.now spot }
     {

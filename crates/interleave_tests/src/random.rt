@@ -11,7 +11,7 @@ use interleave_core::{EventKind, StepError};
 use machine_states::body_terms::{Outcome, Thunk, Word};
 use machine_states::map_history::{Op, Request};
 use machine_states::runner_parts::{Finished, Part, thunk_words};
-use machine_states::table_words::DESCRIPTOR_WORDS;
+use machine_states::table_words::{DESCRIPTOR_WORDS, PART_WORDS};
 use std::alloc::{AllocError, Global};
 
 /// The first descriptor, behind the node slots of two workers and six of the keeper.
@@ -418,13 +418,11 @@ fn has_trail(words: &[u64], section: &Section) -> bool {
     true
 }
 
-/// Whether the log of its descriptor is the plain run's trail, with no word behind it.
+/// Whether the log of its descriptor is the plain run's trail, with no word behind it: the test structure's sections
+/// agree on fewer words than a descriptor has room for.
 fn has_log(machine: &TwoWorkers, section: &Section) -> bool {
-    if section.descriptor >= SECTIONS {
-        return false;
-    }
     let plain = section.plain.trail.words.as_slice();
-    for log in 0..64u32 {
+    for log in 0..PART_WORDS as u32 {
         let agreed = plain.get(log as usize).copied().unwrap_or(0);
         let word = machine.log_word(section.descriptor, log);
         if !is_like(word, agreed, log == 1 && makes(section)) {
@@ -438,9 +436,6 @@ fn has_log(machine: &TwoWorkers, section: &Section) -> bool {
 fn has_node(machine: &TwoWorkers, section: &Section) -> bool {
     if !makes(section) {
         return true;
-    }
-    if section.descriptor >= SECTIONS {
-        return false;
     }
     u64::from(machine.cell(2).value()) == machine.log_word(section.descriptor, 1)
 }

@@ -443,15 +443,6 @@ fn cell(machine: &Played, place: u32) -> u64 {
     }
 }
 
-/// The word with this index of the first descriptor's log.
-fn log_word(machine: &Played, index: u32) -> u64 {
-    if index < 64 {
-        machine.state.log_word(0, index)
-    } else {
-        0
-    }
-}
-
 /// The worker's free descriptors, and those that it has retired and that aren't free again.
 fn descriptors(alloc: Global, part: &Part) -> Result<String, AllocError> {
     let (free, limbo) = (&part.descriptors.free, &part.descriptors.limbo);
@@ -497,7 +488,7 @@ fn count_of(machine: &mut Played, line: &Line) -> u64 {
 fn shown(alloc: Global, machine: &mut Played, line: &Line) -> Result<String, AllocError> {
     match line.name {
         "cell" => word_text(alloc, cell(machine, line.first())),
-        "log" => word_text(alloc, log_word(machine, line.first())),
+        "log" => word_text(alloc, machine.state.log_word(0, line.first())),
         "ended" => ended(alloc, part_of(machine, line.runner)),
         "descriptors" => descriptors(alloc, part_of(machine, line.runner)),
         "slots" => slots(alloc, part_of(machine, line.runner)),
@@ -608,11 +599,11 @@ fn two_runners_make_one_node(rt: HostRuntime) -> Result<(), AllocError> {
 
 #[test]
 fn a_node_is_taken_out(rt: HostRuntime) -> Result<(), AllocError> {
-    // The last section makes 24 steps. Before it there are 204, with the load by which `runs` sees that a run is over.
+    // The last section makes 24 steps. Before it there are 90, with the load by which `runs` sees that a run is over.
     let row =
         "0 prepare 0 102 0 0@1 0@1; 0 hold 0 102 0 0@1 0@1; 0 run 0: 33; 0 clear; 0 leave; 0 prepare 1 103 1 1@2 \
-        0@3; 0 hold 1 103 1 1@2 0@3; 0 events: 204; 0 open 1; 0 load; 0 commit; 0 clock; 0 stamp; 0 raise; 0 \
-        store; 0 epoch; 0 retire; 0 answer; 0 done; 0 release; 0 events: 228; 0 cell 2: 0@3; 0 live 0: no; 0 \
+        0@3; 0 hold 1 103 1 1@2 0@3; 0 events: 90; 0 open 1; 0 load; 0 commit; 0 clock; 0 stamp; 0 raise; 0 \
+        store; 0 epoch; 0 retire; 0 answer; 0 done; 0 release; 0 events: 114; 0 cell 2: 0@3; 0 live 0: no; 0 \
         free 0: no";
     check(&rt, rt.alloc(), row)
 }

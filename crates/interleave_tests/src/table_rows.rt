@@ -133,9 +133,9 @@ fn stored(alloc: Global) -> Result<String, AllocError> {
     let (keeper, first, second) = crew(&table, alloc, keeper)?;
     let (slot, next) = (slot_of(&table, 0), slot_of(&table, 1));
     let first = put(&table, first, 0, slot, 0, 9);
-    let second = put(&table, second, 1, next, 77, 5);
+    let second = put(&table, second, 1, next, 20, 5);
     let (first, word) = fetch(&table, first, 0, slot, 0);
-    let (second, other) = fetch(&table, second, 1, next, 77);
+    let (second, other) = fetch(&table, second, 1, next, 20);
     let (second, unstored) = fetch(&table, second, 1, next, 12);
     let (first, stamp) = entry(&table, first, 0);
     let left = left(alloc, &gather(table, keeper, first, second));

@@ -1,7 +1,8 @@
 //! The machine with two workers and the keeper.
 ghost use Rattle.std.specs.Prelude.{◌≡◌, ◌≤◌, ◌<◌, IfOk, OnErr, OnOk, Some, true};
 ghost use Rattle.machine_states.specs.map_history.specs.Requests.{AreInOrder};
-ghost use Rattle.machine_states.specs.table_words.specs.declared.spot.Spot.TheVariants.{Cell, LogWord};
+ghost use Rattle.machine_states.specs.body_terms.specs.block_words.specs.Blocks.{log_in};
+ghost use Rattle.machine_states.specs.table_words.specs.declared.spot.Spot.TheVariants.{Cell};
 ghost use Rattle.machine_states.specs.structure_laws.specs.Tray.{tray};
 ghost use Rattle.interleave_core.specs.Local.{part_of};
 ghost use Rattle.interleave_core.specs.Machine.{word_of};
@@ -84,11 +85,9 @@ impl TwoWorkers {
         self.machine.part(runner)
     }
 
-    /// A word of this descriptor's log.
+    /// This word of a descriptor's log.
     pub fn log_word(&self, descriptor: u32, index: u32) -> u64
-        requires descriptor { descriptor < 18 }
-        requires index { index < 64 }
-        ensures { result ≡ word_of tray self.now.machine (LogWord descriptor index) }
+        ensures { result ≡ log_in (word_of tray self.now.machine) descriptor index }
     {
         self.machine.log_word(descriptor, index)
     }

@@ -1,6 +1,6 @@
 -- The steps of the bodies over a key's cells, found by their kind, and their shape.
 use Rattle.std.proofs.Common.{◌≡◌, ℕ, zero, suc, ◌+◌, ◌*◌, ◌<◌, ◌≤◌, Bool, true, false, cond, refl, ap, arith}
-use Rattle.std.specs.Prelude.{◌==◌, ◌||◌, Some, None, slice_get}
+use Rattle.std.specs.Prelude.{◌==◌, ◌||◌, Some, None, slice_get, length}
 use Rattle.runner_parts.specs.structure_laws.specs.body_terms.specs.Word.{value_of}
 use Rattle.runner_parts.specs.structure_laws.specs.body_terms.specs.Shape.{IsShaped}
 use Rattle.runner_parts.specs.structure_laws.specs.body_terms.specs.declared.misshape.Misshape.TheVariants.{StoredTwice}
@@ -109,6 +109,18 @@ module _ (cell want new : ℕ → ℕ) (reply : ℕ) where
   stores (suc (suc (suc zero))) few (suc (suc zero)) low = refl
   stores (suc (suc (suc zero))) few (suc (suc (suc i))) low = absurd (omega (arith, low))
   stores (suc (suc (suc (suc n)))) few i low = absurd (omega (arith, few))
+
+  -- there are few
+  pub few_steps : (w : Bool) (n : ℕ) → n ≤ 3 → length (cell_steps cell want new reply w n) ≤ 23
+  few_steps true zero few = omega arith
+  few_steps true (suc zero) few = omega arith
+  few_steps true (suc (suc zero)) few = omega arith
+  few_steps true (suc (suc (suc zero))) few = omega arith
+  few_steps false zero few = omega arith
+  few_steps false (suc zero) few = omega arith
+  few_steps false (suc (suc zero)) few = omega arith
+  few_steps false (suc (suc (suc zero))) few = omega arith
+  few_steps w (suc (suc (suc (suc n)))) few = absurd (omega (arith, few))
 
   -- where no two cells have one place, the body has the shape of one
   pub shaped : (w : Bool) (n : ℕ) → n ≤ 3 → ((i j : ℕ) → i < j → j < n → (cell i == cell j) ≡ false) → IsShaped (cell_steps cell want new reply w n)

@@ -26,7 +26,7 @@ use Rattle.runner_parts.specs.structure_laws.specs.map_history.proofs.Words.{rep
 use Rattle.shared_laws.proofs.Nodeless.{nodeless_begins, nodeless_keeps, nodeless_gives, nodeless_shaped, nodeless_adds, nodeless_sized}
 use Rattle.shared_laws.proofs.Numbers.{pair_read}
 use Rattle.key_cells.specs.Keyed.{Keyed, IsKeyed, lock_place, cell_place, is_lock_place, guard_place, wanted, new_of, key_in, body_by, held_in, keyed}
-use Rattle.key_cells.proofs.CellSteps.{plain_in, load_in, want_in, store_in, answer_in}
+use Rattle.key_cells.proofs.CellSteps.{plain_in, load_in, want_in, store_in, answer_in, few_steps}
 use Rattle.key_cells.proofs.Fitting.{Fit, fit_of, body_own}
 use Rattle.key_cells.proofs.KeyFitting.{keyed_fitting}
 use Rattle.key_cells.proofs.Places.{lock_there, cell_there, places_apart}
@@ -62,6 +62,7 @@ module _ (c : Keyed) (is : IsKeyed c) where
     plain_body : IsPlainBody (keyed c) t
     plain_body = record {
       shape = shape_own c is op readings t fit;
+      few_steps = few_steps (cell_place c (key_in c t)) (wanted t) (new_of t) (operand t 6) (t.form == 2) c.count is.few;
       lock = ap (is_lock_place c) fit.lock ∙ (lock_there c is (key_of op) fit.low).1;
       lock_fixed = subst (λ p. p < c.base + c.fixed) (sym fit.lock) (lock_there c is (key_of op) fit.low).0;
       load_fixed = λ j p r h. let at = load_at j p r h in subst (λ p. p < c.base + c.fixed) (sym at.1) (cell_there c is (key_of op) r fit.low at.0).0;

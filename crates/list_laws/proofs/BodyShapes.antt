@@ -1,11 +1,12 @@
 -- The list's bodies have the shape of a body: the test of each of their steps comes to nothing.
-use Rattle.std.proofs.Common.{◌≡◌, ◌≢◌, ℕ, ◌+◌, false, cond, refl, ap, arith}
+use Rattle.std.proofs.Common.{◌≡◌, ◌≢◌, ℕ, ◌+◌, ◌≤◌, length, false, cond, refl, ap, arith}
 use Rattle.std.specs.Prelude.{◌==◌, ◌||◌, Some, None}
 use Rattle.structure_laws.specs.table_words.specs.small_lemmas.proofs.Numbers.{other_tested}
 use Rattle.structure_laws.specs.body_terms.specs.declared.misshape.Misshape.TheVariants.{StoredTwice}
 use Rattle.structure_laws.specs.body_terms.specs.declared.thunk.Thunk.{Thunk}
 use Rattle.structure_laws.specs.body_terms.specs.Shape.{IsShaped}
 use Rattle.shared_laws.proofs.Shaping.{shaped_by}
+use Rattle.list_bodies.specs.List.{Form, Look, Insert, Remove, Replace, Empty, body_of}
 use Rattle.list_bodies.specs.List.{next_of, mark_of, node_in}
 use Rattle.list_bodies.specs.List.{look_steps, insert_steps, remove_steps, replace_steps}
 
@@ -51,3 +52,11 @@ module _ (t : Thunk) where
     where
       own : (n : ℕ) → (mark_of n == next_of n) ≡ false
       own n = other_tested (mark_of n) (next_of n) (λ e. omega (arith, e))
+
+  -- there are few steps
+  pub few_steps : (f : Form) → length (body_of f t) ≤ 23
+  few_steps Look = omega arith
+  few_steps Insert = omega arith
+  few_steps Remove = omega arith
+  few_steps Replace = omega arith
+  few_steps Empty = omega arith

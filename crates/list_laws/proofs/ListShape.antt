@@ -23,7 +23,7 @@ use Rattle.structure_laws.specs.Cells.{IsKnown}
 use Rattle.structure_laws.specs.Sound.{Sound}
 use Rattle.structure_laws.specs.Shape.{Shaped}
 use Rattle.structure_laws.proofs.Changes.{value_small, both_true}
-use Rattle.structure_laws.proofs.Costs.{shaped_cost}
+use Rattle.structure_laws.proofs.Costs.{brief_cost}
 use Rattle.bucket_laws.proofs.TableGives.{reached}
 use Rattle.node_laws.proofs.Cells.{cell_unlocked, lock_locked, five_small, five_unlocked}
 use Rattle.node_laws.proofs.Forms.{put_puts, reply_some}
@@ -31,7 +31,7 @@ use Rattle.list_bodies.specs.List.{lock_of, node_in, Form, Look, Insert, Remove,
 use Rattle.list_bodies.specs.List.{form_of, body_of, list_steps}
 use Rattle.list_laws.specs.Walk.{Walk, node_of, is_past, takes_out, form_for, operands_for}
 use Rattle.list_laws.specs.Nodes.{is_lock_place, is_link_place, nodes, bounds, walk_of, IsWalk, ListKept, list}
-use Rattle.list_laws.proofs.BodyShapes.{look_shaped, insert_shaped, remove_shaped, replace_shaped}
+use Rattle.list_laws.proofs.BodyShapes.{look_shaped, insert_shaped, remove_shaped, replace_shaped, few_steps}
 use Rattle.list_laws.proofs.Fit.{IsFit, fit_of, look_numbers, inserts, removes, replaces, takes_both}
 use Rattle.list_laws.proofs.Forms.{FrontLoad, WholeLoad, RemoveStore, ReplaceStore}
 use Rattle.list_laws.proofs.Forms.{look_load, look_take, look_make, look_store, look_answer}
@@ -182,7 +182,7 @@ module _ (layout : Layout) (limits : IsWithinLimits layout) (s : Scene) (sound :
       let shape : IsShaped (list_steps thunk) = subst (λ f. IsShaped (body_of f thunk)) (sym form) (look_shaped thunk) in
       record {
         shape = shape;
-        brief = shaped_cost (list_steps thunk) shape;
+        brief = brief_cost (list_steps thunk) shape (few_steps thunk (form_of thunk));
         outer_lock = outer_lock;
         outer_known = outer_known;
         take_lock = λ j l n h. absurd (look_take thunk j l n (at j _ h));
@@ -216,7 +216,7 @@ module _ (layout : Layout) (limits : IsWithinLimits layout) (s : Scene) (sound :
       (cell_low (node_of w) 4 node_from (omega arith)) of.key of.value 4 of.puts (number_at 4 of.numbers) in
       record {
         shape = shape;
-        brief = shaped_cost (list_steps thunk) shape;
+        brief = brief_cost (list_steps thunk) shape (few_steps thunk (form_of thunk));
         outer_lock = outer_lock;
         outer_known = outer_known;
         take_lock = λ j l n h. absurd (insert_take thunk j l n (at j _ h));
@@ -283,7 +283,7 @@ module _ (layout : Layout) (limits : IsWithinLimits layout) (s : Scene) (sound :
       let lock = number_at 3 (removes op w w.found number).numbers in
       record {
         shape = shape;
-        brief = shaped_cost (list_steps thunk) shape;
+        brief = brief_cost (list_steps thunk) shape (few_steps thunk (form_of thunk));
         outer_lock = outer_lock;
         outer_known = outer_known;
         take_lock = λ j l n h. took_lock takes lock j l n (remove_take thunk j l n (at j _ h));
@@ -331,7 +331,7 @@ module _ (layout : Layout) (limits : IsWithinLimits layout) (s : Scene) (sound :
       (cell_low (node_of w) 4 node_from (omega arith)) of.key of.value 6 puts (number_at 6 of.numbers) in
       record {
         shape = shape;
-        brief = shaped_cost (list_steps thunk) shape;
+        brief = brief_cost (list_steps thunk) shape (few_steps thunk (form_of thunk));
         outer_lock = outer_lock;
         outer_known = outer_known;
         take_lock = λ j l n h. took_lock takes lock j l n (replace_take thunk j l n (at j _ h));

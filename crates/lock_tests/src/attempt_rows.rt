@@ -17,7 +17,7 @@ use std::thread;
 use std::thread::Threads;
 
 /// A new table of this structure with its two workers.
-fn two_workers<S: Planner>(
+pub fn two_workers<S: Planner>(
     alloc: Global,
     structure: S,
 ) -> Result<(FlockTable<S>, Runner<S>, Runner<S>), AllocError>
@@ -151,7 +151,7 @@ fn told_behind<S: Planner>(
 /// A request with two numbers of asks: the last at which it is not yet in the way of others, and its last.
 const ON_HASH: [(Stopped, u64, u64); 2] = [(Stopped::Insertion, 4, 41), (Stopped::Removal, 7, 35)];
 
-const ON_TREE: [(Stopped, u64, u64); 2] = [(Stopped::Insertion, 6, 53), (Stopped::Removal, 30, 52)];
+const ON_TREE: [(Stopped, u64, u64); 2] = [(Stopped::Insertion, 6, 53), (Stopped::Removal, 30, 61)];
 
 /// What is told behind a stop where the request has no effect, or has it.
 fn told_by(stopped: Stopped, has_effect: bool) -> Reply {

@@ -30,9 +30,9 @@ fn removed(alloc: Global) -> Result<String, AllocError> {
 fn a_removal_has_nine_log_words_and_retires_two_slots(rt: HostRuntime) -> Result<(), AllocError> {
     // Its trail has the words (5, 2), which are value and version, (0, 1), (0, 2), (2, 3), (4, 2), (2, 2) and (0, 2),
     // and then the two slots. Eight node slots are free, and two in limbo.
-    let trail = "4: 41 Answered(17179869184) [8589934597, 4294967296, 8589934592, 12884901890, \
+    let trail = "4: 50 Answered(17179869184) [8589934597, 4294967296, 8589934592, 12884901890, \
         8589934596, 8589934594, 8589934592, 5, 4]";
-    let shown = ["[5, 9]", "46 New, 41 Gone", "10 slots, []", trail, "(8, 2)"];
+    let shown = ["[5, 9]", "46 New, 50 Gone", "10 slots, []", trail, "(8, 2)"];
     check(&rt, rt.alloc(), removed(rt.alloc()), &shown)
 }
 
@@ -67,7 +67,7 @@ fn an_inner_node_takes_the_parents_place(rt: HostRuntime) -> Result<(), AllocErr
         10,
         "ins 2 2\nins 1 1\nins 3 3\ndel 1\nget 2\nget 3\n",
     );
-    let told = "46 New, 46 New, 46 New, 41 Gone, 23 Val(2), 23 Val(3)";
+    let told = "46 New, 46 New, 46 New, 50 Gone, 23 Val(2), 23 Val(3)";
     check(
         &rt,
         rt.alloc(),
@@ -82,7 +82,7 @@ fn hundred_rounds(alloc: Global) -> Result<String, AllocError> {
     let shown = planned(alloc, 18, &lines)?;
     let (loads, told) = (
         "5, 9, ".repeat(alloc, 99)?,
-        "46 New, 41 Gone, ".repeat(alloc, 99)?,
+        "46 New, 50 Gone, ".repeat(alloc, 99)?,
     );
     shown
         .replace(alloc, loads.as_str(), "")?
@@ -96,7 +96,7 @@ fn slots_are_used_again(rt: HostRuntime) -> Result<(), AllocError> {
         &rt,
         rt.alloc(),
         row,
-        &["[5, 9]", "46 New, 41 Gone", "18 slots, []"],
+        &["[5, 9]", "46 New, 50 Gone", "18 slots, []"],
     )
 }
 
@@ -124,7 +124,7 @@ fn pairs_are_in_order_of_key_after_removals_on_all_sides(
     let shown = [
         "46 New, 46 New, 46 New, 46 New, 46 New, 46 New, 46 New",
         "2 slots, [(1, 10), (2, 20), (3, 30), (4, 40), (5, 50), (6, 60), (7, 70)]",
-        "46 New, 46 New, 46 New, 46 New, 46 New, 46 New, 46 New, 41 Gone, 41 Gone, 41 Gone, 41 Gone",
+        "46 New, 46 New, 46 New, 46 New, 46 New, 46 New, 46 New, 50 Gone, 50 Gone, 50 Gone, 50 Gone",
         "10 slots, [(2, 20), (3, 30), (6, 60)]",
     ];
     check(&rt, rt.alloc(), grown_and_less(rt.alloc()), &shown)

@@ -24,7 +24,7 @@ use Rattle.machine_epochs.proofs.RunPlaces.{is_of_end, next_in_line, open_run}
 use Rattle.runner_facts.specs.machine_facts.specs.machine_agreement.proofs.RunPlaces.{code_here}
 use Rattle.runner_facts.specs.machine_facts.specs.machine_invariant.proofs.Keeping.{IsStep}
 use Rattle.runner_facts.proofs.Lines.{commit_unique}
-use Rattle.machine_states.specs.runner_parts.specs.block_words.specs.Blocks.{log_in}
+use Rattle.machine_states.specs.body_terms.specs.block_words.specs.Blocks.{log_in}
 use Rattle.runner_facts.specs.machine_facts.specs.machine_invariant.specs.After.{AreAllowed}
 use Rattle.runner_facts.specs.machine_facts.specs.machine_invariant.specs.machine_blocks.specs.Writes.{carries_word as carries}
 use Rattle.runner_facts.specs.machine_facts.specs.machine_invariant.proofs.LogSteps.{won_word, kept_word, IsSure, Commits, log_goes}

@@ -36,7 +36,7 @@ use Rattle.lock_words.proofs.Facts.{line_of_section, code_is}
 use Rattle.lock_words.proofs.Sure.{sure_used, emptied, sure_before}
 use Rattle.lock_words.proofs.Loading.{Was, loaded_before}
 use Rattle.lock_words.proofs.StaleLeaving.{IsHeldCheck, differs, not_reply}
-use Rattle.machine_states.specs.runner_parts.specs.block_words.specs.Blocks.{log_in}
+use Rattle.machine_states.specs.body_terms.specs.block_words.specs.Blocks.{log_in}
 use Rattle.runner_facts.specs.machine_facts.specs.machine_invariant.specs.After.{AreAllowed}
 use Rattle.runner_facts.specs.machine_facts.specs.machine_invariant.specs.machine_blocks.proofs.Holding.{log_read}
 use Rattle.runner_facts.specs.machine_facts.specs.machine_invariant.proofs.LogSteps.{IsSure}

@@ -14,9 +14,9 @@ use Rattle.machine_states.specs.table_words.specs.declared.access.Access.{Access
 use Rattle.machine_states.specs.table_words.specs.Access.{written}
 use Rattle.machine_states.specs.table_words.specs.Seen.{put}
 use Rattle.machine_states.specs.structure_laws.specs.Meaning.{Meaning}
-use Rattle.machine_states.specs.runner_parts.specs.block_words.specs.Blocks.{log_in, HasBlocks}
-use Rattle.machine_states.specs.runner_parts.specs.block_words.proofs.Parts.{alone}
-use Rattle.machine_states.specs.runner_parts.specs.block_words.proofs.Reading.{read_log}
+use Rattle.machine_states.specs.body_terms.specs.block_words.specs.Blocks.{log_in, HasBlocks}
+use Rattle.machine_states.specs.body_terms.specs.block_words.proofs.Parts.{alone}
+use Rattle.machine_states.specs.body_terms.specs.block_words.proofs.Reading.{read_log}
 use Rattle.machine_states.specs.runner_parts.specs.declared.entries.Published.{Published}
 use Rattle.machine_states.specs.runner_parts.specs.declared.event.EventKind.{EventKind}
 use Rattle.machine_states.specs.runner_parts.specs.declared.event.EventKind.TheVariants as kinds

@@ -41,8 +41,8 @@ module _ (m : Meaning) (l : Layout) (rs : List Request) (w : World) (start : IsF
   nought a inside outside = first_has (λ n. n ≡ 0) a (λ fit. inside) outside
 
   -- a runner that has done nothing is tied
-  first_tied : (cells : ℕ → ℕ) (word : Spot → ℕ) (r : ℕ) (nodes descriptors : List ℕ) → IsTied m l (first_state cells) word r (first_part nodes descriptors [])
-  first_tied cells word r nodes descriptors = record {
+  first_tied : (cells : ℕ → ℕ) (word : Spot → ℕ) (r : ℕ) (nodes descriptors blocks : List ℕ) → IsTied m l (first_state cells) word r (first_part nodes descriptors blocks)
+  first_tied cells word r nodes descriptors blocks = record {
     run = refl;
     opened = λ q j e low more. absurd (let none = e in cc);
     begins = λ q e low. absurd (let none = e in cc);
@@ -57,9 +57,9 @@ module _ (m : Meaning) (l : Layout) (rs : List Request) (w : World) (start : IsF
   part_tied cells r = subst (IsTied m l (first_state cells) s.word r) (sym (first_parts m l w.parts start.parts r)) (by (r == l.runners) (nat_lt r l.runners))
     where
       by : (b b' : Bool) → IsTied m l (first_state cells) s.word r (cond b (keeper_part m l) (cond b' (worker_part m l r) (first_part [] [] [])))
-      by true b' = first_tied cells s.word r _ _
-      by false true = first_tied cells s.word r _ _
-      by false false = first_tied cells s.word r [] []
+      by true b' = first_tied cells s.word r _ _ _
+      by false true = first_tied cells s.word r _ _ _
+      by false false = first_tied cells s.word r [] [] []
 
   module _ (memory : FirstMemory m) (limits : IsWithinLimits l) where
     -- a first word has the version 1, and a lock's is free

@@ -20,7 +20,7 @@ use Rattle.machine_states.specs.runner_parts.specs.declared.event.EventKind.{Eve
 use Rattle.machine_states.specs.runner_parts.specs.State.{RunState, PartState}
 use Rattle.machine_states.specs.runner_steps.specs.Sections.{thunk_of, is_open_run, next_of, is_beyond, needs_link}
 use Rattle.machine_states.specs.runner_steps.specs.InRun.{commit_ask, commit_to, make_commit_ask, make_commit_to, retire_commit_ask, outcome_commit_ask, private_store_in_run_ask, link_commit_ask, load_cell_ask, exchange_cell_ask, fill_load_ask, fill_store_ask, epoch_for_retire_ask, clock_load_ask, stamp_exchange_ask, clock_raise_ask, reply_exchange_ask, nested_load_ask, nested_hold_ask, outcome_load_ask, set_done_ask, release_ask, can_raise, stamp_after, is_slot, make_slot}
-use Rattle.machine_states.specs.runner_parts.specs.block_words.specs.Blocks.{link_spot, log_spot}
+use Rattle.machine_states.specs.body_terms.specs.block_words.specs.Blocks.{link_spot, log_spot}
 use Rattle.machine_states.specs.epoch_core.specs.small_lemmas.proofs.Bools.{negated as not_so}
 use Rattle.machine_states.specs.runner_steps.specs.Outside.{block_spot, blocks_from}
 use Rattle.machine_states.specs.runner_steps.specs.Asks.{asks, ask_by, line_ask, inside_ask, opening_ask}

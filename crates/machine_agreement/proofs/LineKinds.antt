@@ -22,7 +22,7 @@ use Rattle.machine_states.specs.runner_steps.specs.After.{noted}
 use Rattle.machine_states.specs.runner_steps.specs.Blocks.{blocks_after}
 use Rattle.machine_states.specs.runner_steps.specs.Board.{board_after}
 use Rattle.machine_states.specs.runner_steps.specs.After.{after, after_by, line_after}
-use Rattle.machine_states.specs.runner_parts.specs.block_words.specs.Blocks.{log_spot}
+use Rattle.machine_states.specs.body_terms.specs.block_words.specs.Blocks.{log_spot}
 use Rattle.agreement_core.specs.State.{CellRules, AgreementState, section_of}
 use Rattle.agreement_core.specs.Events as events
 use Rattle.agreement_core.specs.Events.{IsBefore, IsAlone, goes_on, agrees, with_cell, reads}

@@ -17,7 +17,7 @@ use Rattle.machine_states.specs.runner_parts.specs.State.{RunState, PartState}
 use Rattle.machine_states.specs.runner_steps.specs.Sections.{is_open_run, next_of, commits_to, needs_link}
 use Rattle.machine_states.specs.runner_steps.specs.Asks.{asks}
 use Rattle.machine_states.specs.runner_steps.specs.After.{line_after}
-use Rattle.machine_states.specs.runner_parts.specs.block_words.specs.Blocks.{log_spot}
+use Rattle.machine_states.specs.body_terms.specs.block_words.specs.Blocks.{log_spot}
 use Rattle.machine_states.specs.runner_steps.specs.AfterInRun.{make_committed}
 use Rattle.agreement_core.specs.State.{AgreementState, section_of}
 use Rattle.agreement_core.specs.Events as events

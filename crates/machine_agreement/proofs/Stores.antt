@@ -30,7 +30,7 @@ use Rattle.machine_states.specs.runner_steps.specs.InRun.{fill_store_ask, stamp_
 use Rattle.machine_states.specs.runner_steps.specs.Asks.{asks}
 use Rattle.machine_states.specs.runner_steps.specs.After.{after, line_after}
 use Rattle.machine_states.specs.runner_steps.specs.Outside.{block_spot, blocks_from}
-use Rattle.machine_states.specs.runner_parts.specs.block_words.specs.Blocks.{link_spot}
+use Rattle.machine_states.specs.body_terms.specs.block_words.specs.Blocks.{link_spot}
 use Rattle.machine_states.specs.runner_steps.specs.AfterInRun.{fill_loaded}
 use Rattle.machine_states.specs.runner_steps.specs.AfterInRun as run_steps
 use Rattle.agreement_core.specs.State.{CellRules, Shared, Run, AgreementState, section_of}

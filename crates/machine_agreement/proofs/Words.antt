@@ -1,7 +1,7 @@
 -- Words that the component sees, and stores that it doesn't see.
 use Rattle.std.specs.Prelude.{◌==◌, ◌/◌, ◌%◌, cond, Bool, true, false, slice_index}
 use Rattle.std.proofs.Common.{◌≡◌, ℕ, zero, suc, List, sym, refl, ◌∙◌, subst}
-use Rattle.machine_states.specs.runner_parts.specs.block_words.specs.Blocks.{part_spot, link_spot, log_spot}
+use Rattle.machine_states.specs.body_terms.specs.block_words.specs.Blocks.{part_spot, link_spot, log_spot}
 use Rattle.machine_states.specs.table_words.specs.declared.spot.Spot.{Spot}
 use Rattle.machine_states.specs.table_words.specs.declared.spot.Spot.TheVariants as spots
 use Rattle.machine_states.specs.table_words.specs.Places.{part_words}

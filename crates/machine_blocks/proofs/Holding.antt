@@ -1,8 +1,7 @@
 -- Guards and the logs stand behind the machine's steps, with the blocks that these link.
-use Rattle.std.specs.Prelude.{◌==◌, ◌^◌, cond, Bool, true, false, if◌then◌else◌}
-use Rattle.std.proofs.Common.{◌≡◌, ℕ, ◌≤◌, List, [], refl, sym, ap, ◌∙◌, subst, arith, ⊎_elim, Option, Some, None}
-use Rattle.std.proofs.lemmas.Bool.{cases_lt}
-use Rattle.block_words.specs.Blocks.{room, log_in}
+use Rattle.std.specs.Prelude.{◌^◌, true}
+use Rattle.std.proofs.Common.{◌≡◌, ℕ, ◌≤◌, List, [], sym, ap, ◌∙◌, subst, arith}
+use Rattle.block_words.specs.Blocks.{log_in}
 use Rattle.block_words.proofs.Reading.{read_log}
 use Rattle.machine_states.specs.map_history.specs.declared.op.Request.{Request}
 use Rattle.machine_states.specs.table_words.specs.declared.layout.Layout.{Layout}
@@ -11,13 +10,12 @@ use Rattle.machine_states.specs.table_words.specs.declared.spot.Spot.TheVariants
 use Rattle.machine_states.specs.table_words.specs.declared.access.Access.{Access}
 use Rattle.machine_states.specs.table_words.specs.Access.{written}
 use Rattle.machine_states.specs.table_words.specs.Places.{Fits, part_words, block_count}
-use Rattle.machine_states.specs.table_words.specs.Seen.{put, upd}
+use Rattle.machine_states.specs.table_words.specs.Seen.{put}
 use Rattle.machine_states.specs.table_words.proofs.Seen.{put_elsewhere}
 use Rattle.machine_states.specs.structure_laws.specs.Meaning.{Meaning}
 use Rattle.machine_states.specs.runner_parts.specs.declared.event.EventKind.{EventKind}
 use Rattle.machine_states.specs.runner_parts.specs.declared.event.EventKind.TheVariants as kinds
-use Rattle.machine_states.specs.runner_parts.specs.State.{RunState}
-use Rattle.machine_states.specs.runner_steps.specs.Asks.{asks, sizes_for}
+use Rattle.machine_states.specs.runner_steps.specs.Asks.{sizes_for}
 use Rattle.machine_states.specs.runner_steps.specs.Outside.{is_sure_of}
 use Rattle.machine_states.specs.epoch_core.specs.State.{EpochState}
 use Rattle.machine_states.specs.epoch_core.specs.Schedules as epoch_schedules
@@ -30,14 +28,13 @@ use Rattle.machine_states.proofs.FirstSights.{unlogged}
 use Rattle.machine_guards.specs.machine_agreement.specs.machine_epochs.specs.Firsts.{first_place}
 use Rattle.machine_guards.specs.machine_agreement.specs.machine_epochs.specs.Joined.{IsJoinedToEpochs}
 use Rattle.machine_guards.specs.machine_agreement.specs.Joined.{IsJoinedToAgreement}
-use Rattle.machine_guards.specs.Chunks.{linked_more, chain_after}
+use Rattle.machine_guards.specs.Chunks.{chain_after}
 use Rattle.machine_guards.specs.Goes.{OthersGo}
 use Rattle.machine_guards.specs.Supplied.{GuardsAreSupplied}
 use Rattle.machine_guards.proofs.AllKinds.{step_goes}
 use Rattle.machine_guards.proofs.First.{first_stands}
-use Rattle.machine_blocks.specs.Stands.{LogsStand, LogsHold}
+use Rattle.machine_blocks.specs.Stands.{LogsHold}
 use Rattle.machine_blocks.proofs.AllKinds.{logs_kept}
-use Rattle.machine_blocks.proofs.Finding.{link_is}
 use Rattle.machine_blocks.proofs.First.{first_stand}
 
 -- no step meets a log word for which no descriptor has room
@@ -47,42 +44,11 @@ unmet m l rs f x v d k fits high = put_elsewhere f x.0 v (LogWord d k) (λ same.
     let there : Fits (sizes_for m l rs) (LogWord d k) = subst (Fits (sizes_for m l rs)) (sym same) fits in
     let low = there.1 in omega (arith, low, high))
 
--- where the table has no block, each log stands in its descriptor
-pub own_alone : (m : Meaning) (l : Layout) {a : AgreementState} {e : EpochState} {s : Sight} → LogsHold m l a e s → block_count l ≡ 0 → (d k : ℕ)
-    → s.word (LogWord d k) ≡ (a.section d).log k
-own_alone m l logs empty d k = ⊎_elim
-    (λ low. logs.stands.own d k low)
-    (λ high. logs.beyond d k high ∙ sym (logs.stands.rest d k (subst (λ (xs : List ℕ). room xs ≤ k) (sym (logs.none empty d)) (first k high))))
-    (cases_lt k part_words)
-  where
-    first : (k : ℕ) → part_words ≤ k → room [] ≤ k
-    first k high = omega (arith, high)
-
 -- where somebody is sure of a descriptor, its log is what is read off its words and those of its blocks
 pub log_read : (m : Meaning) (l : Layout) {a : AgreementState} {e : EpochState} {s : Sight} → LogsHold m l a e s → (r d : ℕ)
     → is_sure_of (s.part r).guards d ≡ true → (k : ℕ) → log_in s.word d k ≡ (a.section d).log k
 log_read m l {a} {e} {s} logs r d sure k =
     read_log (a.section d).log s.word d (logs.chain d) (logs.stands.logs r d sure) k (logs.guards.sound.few d)
-
-module _ (m : Meaning) (l : Layout) (rs : List Request) (chain : ℕ → List ℕ) (a : AgreementState) (e : EpochState) (s : Sight) (joined : IsJoinedToEpochs m l e s) (stands : LogsStand chain a e s)
-    (r : ℕ) (x : Spot × Access) (empty : block_count l ≡ 0) (none : (d : ℕ) → chain d ≡ []) (found d : ℕ) where
-  -- then no step links one
-  none_linked : (kind : EventKind) → asks m l rs r kind (s.part r) ≡ Some x → chain_after chain kind (s.part r) found d ≡ []
-  none_linked (kinds.Hold t n) asked = by (found == t.word)
-    where
-      inner : (c : Bool) → cond c [] (chain d) ≡ []
-      inner true = refl
-      inner false = none d
-
-      by : (b : Bool) → (if b then upd chain n [] else chain) d ≡ []
-      by true = inner (d == n)
-      by false = none d
-  none_linked (kinds.LinkCommit b) asked = by (s.part r).run refl
-    where
-      by : (o : Option RunState) → (s.part r).run ≡ o → linked_more chain b o found d ≡ []
-      by None at = none d
-      by (Some q) at = absurd (let few = (link_is m l rs chain a e s joined stands r b x asked q at).few in omega (arith, few, empty))
-  none_linked _ asked = none d
 
 module _ (m : Meaning) (l : Layout) (rs : List Request) where
   pub logs_hold : (a a' : AgreementState) (e e' : EpochState) (s s' : Sight) (r : ℕ) (kind : EventKind) → IsJoinedToAgreement m l a s → IsJoinedToEpochs m l e s → block_count l ≤ 2 ^ 32
@@ -94,7 +60,6 @@ module _ (m : Meaning) (l : Layout) (rs : List Request) where
     stands = logs_kept m l rs old.chain a a' e e' s s' r kind of_sections joined old.guards old.stands small step supplied go;
     beyond = λ d k high. ap (λ (t : Sight). t.word (LogWord d k)) step.next
         ∙ (unmet m l rs s.word step.ask (written step.ask.1 (s.word (step.ask.0))) d k step.has_word high ∙ old.beyond d k high);
-    none = λ empty d. none_linked m l rs old.chain a e s joined old.stands r step.ask empty (old.none empty) (s.word (step.ask.0)) d kind step.asked;
   }
 
   pub first_hold : (w : World) → IsFirst m l rs w → LogsHold m l (agreement_schedules.first_state (λ p. (sight m l rs w).word (Cell p))) (epoch_schedules.first_state (first_place m l)) (sight m l rs w)
@@ -103,5 +68,4 @@ module _ (m : Meaning) (l : Layout) (rs : List Request) where
     guards = first_stands m l rs w start;
     stands = first_stand m l rs w start;
     beyond = λ d k high. unlogged m l rs w start d k;
-    none = λ empty d. refl;
   }

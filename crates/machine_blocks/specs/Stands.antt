@@ -1,8 +1,8 @@
 -- Where the words of the sections' logs stand, in the machine's state.
-use Rattle.std.specs.Prelude.{ℕ, ◌<◌, ◌≤◌, ◌≡◌, true, List, [], Some, None}
+use Rattle.std.specs.Prelude.{ℕ, ◌<◌, ◌≤◌, ◌≡◌, true, List, Some, None}
 use Rattle.block_words.specs.Blocks.{room, HasBlocks, IsPrefix}
 use Rattle.machine_states.specs.table_words.specs.declared.spot.Spot.TheVariants.{LogWord}
-use Rattle.machine_states.specs.table_words.specs.Places.{part_words, block_words, block_count}
+use Rattle.machine_states.specs.table_words.specs.Places.{part_words, block_words}
 use Rattle.machine_states.specs.runner_parts.specs.State.{RunState}
 use Rattle.machine_states.specs.runner_steps.specs.Outside.{block_spot, is_sure_of}
 use Rattle.agreement_core.specs.State.{AgreementState}
@@ -38,5 +38,3 @@ pub record LogsHold (m : Meaning) (l : Layout) (a : AgreementState) (e : EpochSt
   pub stands : LogsStand chain a e s
   -- no descriptor has log words beyond its part
   pub beyond : (d k : ℕ) → part_words ≤ k → s.word (LogWord d k) ≡ 0
-  -- where the table has no block, none is linked
-  pub none : block_count l ≡ 0 → (d : ℕ) → chain d ≡ []

@@ -24,7 +24,7 @@ use Rattle.machine_states.specs.table_words.specs.Places.{slot_count}
 use Rattle.machine_states.specs.runner_steps.specs.Reads.{read_clock_ask, read_reply_ask, read_stamp_ask}
 use Rattle.machine_states.specs.runner_steps.specs.InRun.{commit_ask, make_commit_ask, make_commit_to, retire_commit_ask, outcome_commit_ask, private_store_in_run_ask, block_empty_ask, link_commit_ask, load_cell_ask, exchange_cell_ask, fill_load_ask, fill_store_ask, epoch_for_retire_ask, clock_load_ask, stamp_exchange_ask, clock_raise_ask, reply_exchange_ask, nested_load_ask, nested_hold_ask, outcome_load_ask, set_done_ask, release_ask}
 use Rattle.machine_states.specs.runner_steps.specs.After.{outside_after, line_after, inside_after, after_by}
-use Rattle.machine_states.specs.runner_parts.specs.block_words.specs.Blocks.{part_spot, link_spot}
+use Rattle.machine_states.specs.body_terms.specs.block_words.specs.Blocks.{part_spot, link_spot}
 use Rattle.machine_states.specs.runner_steps.specs.Asks.{outside_ask, line_ask, opening_ask, ask_by}
 use Rattle.machine_states.specs.runner_steps.specs.Guards.{load_guard_by}
 use Rattle.machine_states.specs.epoch_core.specs.declared.stage.Stage.{Stage}

@@ -164,8 +164,8 @@ module _ (m : Meaning) (l : Layout) where
     limbo_nodes = λ r t y high. each_part m l (λ q. times_retired t y (lists_of q).limbo ≡ 0) refl (λ k. refl) refl r;
   }
 
-  tied : (word : Spot → ℕ) (r : ℕ) (nodes descriptors : List ℕ) → IsTied m l begun word r (first_part nodes descriptors [])
-  tied word r nodes descriptors = record {
+  tied : (word : Spot → ℕ) (r : ℕ) (nodes descriptors blocks : List ℕ) → IsTied m l begun word r (first_part nodes descriptors blocks)
+  tied word r nodes descriptors blocks = record {
     run_held = λ q e. absurd (none-some _ e);
     run_opened = λ q j e low low'. absurd (none-some _ e);
     run_begins = λ q e few. absurd (none-some _ e);
@@ -189,8 +189,8 @@ module _ (m : Meaning) (l : Layout) where
     parts_are : s.part ≡ first_part_of m l
     parts_are = fun_ext (first_parts m l w.parts start.parts)
 
-    of_part : (Q : PartState → Type 0) → ((nodes descriptors : List ℕ) → Q (first_part nodes descriptors [])) → (r : ℕ) → Q (s.part r)
-    of_part Q each r = subst Q (sym (first_parts m l w.parts start.parts r)) (each_part m l Q (each _ _) (λ k. each _ _) (each _ _) r)
+    of_part : (Q : PartState → Type 0) → ((nodes descriptors blocks : List ℕ) → Q (first_part nodes descriptors blocks)) → (r : ℕ) → Q (s.part r)
+    of_part Q each r = subst Q (sym (first_parts m l w.parts start.parts r)) (each_part m l Q (each _ _ _) (λ k. each _ _ _) (each _ _ _) r)
 
     -- the board's words are 0
     pub unwritten : (i : ℕ) → s.word (Board i) ≡ 0
@@ -208,13 +208,13 @@ module _ (m : Meaning) (l : Layout) where
       entries = record {
         epoch = sym (start.words.seen Epoch tt);
         announced = λ r. sym (unannounced m l rs w start r);
-        stage = λ r. of_part (λ q. points.Idle ≡ q.stage) (λ nodes descriptors. refl) r;
+        stage = λ r. of_part (λ q. points.Idle ≡ q.stage) (λ nodes descriptors blocks. refl) r;
       };
       board = record {
         word = λ t i at. absurd (let x = sym (at_first m l (λ p. board_of p ≡ None) refl (λ r. refl) t) ∙ ap board_of at in cc);
         slot = λ i t named. absurd (let x = sym (unwritten i) ∙ named in cc);
       };
       roles = λ d k out. absurd (let x = sym (ap is_out (at_descriptor m l d)) ∙ out in cc);
-      published_once = λ r r' x x' e e' same. absurd (none-some _ (sym (of_part (λ q. q.published ≡ None) (λ nodes descriptors. refl) r) ∙ e));
+      published_once = λ r r' x x' e e' same. absurd (none-some _ (sym (of_part (λ q. q.published ≡ None) (λ nodes descriptors blocks. refl) r) ∙ e));
       tied = λ r. of_part (λ q. IsTied m l begun s.word r q) (tied s.word r) r;
     }

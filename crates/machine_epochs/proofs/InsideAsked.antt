@@ -17,7 +17,7 @@ use Rattle.machine_states.specs.runner_parts.specs.State.{RunState}
 use Rattle.machine_states.specs.runner_steps.specs.Sections.{thunk_of, is_beyond, needs_link}
 use Rattle.section_lines.specs.small_lemmas.proofs.Bools.{negated as not_so}
 use Rattle.machine_states.specs.runner_steps.specs.Outside.{block_spot, blocks_from}
-use Rattle.machine_states.specs.runner_parts.specs.block_words.specs.Blocks.{link_spot, log_spot}
+use Rattle.machine_states.specs.body_terms.specs.block_words.specs.Blocks.{link_spot, log_spot}
 use Rattle.machine_states.specs.runner_steps.specs.InRun.{commit_ask, make_commit_to, make_commit_ask, retire_commit_ask, outcome_commit_ask, private_store_in_run_ask, block_empty_ask, link_commit_ask, open_more_ask, load_done_ask, load_cell_ask, exchange_cell_ask, make_slot, is_slot, fill_load_ask, fill_store_ask, epoch_for_retire_ask, clock_load_ask, last_clock, stamp_exchange_ask, clock_raise_ask, reply_exchange_ask, nested_load_ask, nested_hold_ask, outcome_load_ask, set_done_ask, release_ask}
 use Rattle.machine_states.proofs.Steps.{some_same}
 use Rattle.machine_states.proofs.Sights.{if_some, some_none}

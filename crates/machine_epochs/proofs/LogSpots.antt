@@ -1,7 +1,7 @@
 -- What a store into a log, into its links, or into a block leaves alone.
 use Rattle.std.specs.Prelude.{◌==◌, ◌/◌, ◌%◌, Bool, true, false, slice_index, cond}
 use Rattle.std.proofs.Common.{◌≡◌, ◌≢◌, ℕ, zero, suc, List, refl}
-use Rattle.machine_states.specs.runner_parts.specs.block_words.specs.Blocks.{part_spot, link_spot, log_spot}
+use Rattle.machine_states.specs.body_terms.specs.block_words.specs.Blocks.{part_spot, link_spot, log_spot}
 use Rattle.machine_states.specs.table_words.specs.declared.spot.Spot.{Spot}
 use Rattle.machine_states.specs.table_words.specs.declared.spot.Spot.TheVariants.{Epoch, Announcement, ThunkWord, Board, BlockWord, BlockLink}
 use Rattle.machine_states.specs.table_words.specs.Places.{part_words}

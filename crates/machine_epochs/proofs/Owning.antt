@@ -114,8 +114,8 @@ module _ (m : Meaning) (l : Layout) (rs : List Request) where
           let at = entries.shows.stage r ∙ e in
           subst (λ n. n ≤ s.word Epoch) (ap entry_of at) (subst (λ n. entry_of (entries.state.stage r) ≤ n) entries.shows.epoch (entries.sound.entered_most r (ap is_entered at)))
 
-  first_own : (epoch r : ℕ) (nodes descriptors : List ℕ) → ((d : ℕ) → d < descriptor_count l → times d descriptors ≡ cond (owner_of l.sections l.runners d == r) 1 0) → IsOwn m l epoch r (first_part nodes descriptors [])
-  first_own epoch r nodes descriptors once = record {
+  first_own : (epoch r : ℕ) (nodes descriptors blocks : List ℕ) → ((d : ℕ) → d < descriptor_count l → times d descriptors ≡ cond (owner_of l.sections l.runners d == r) 1 0) → IsOwn m l epoch r (first_part nodes descriptors blocks)
+  first_own epoch r nodes descriptors blocks once = record {
     once = λ d few. let o = once d few in omega arith;
     nodes_most = All-nil (λ x. x.epoch ≤ epoch);
     retire_most = omega arith;
@@ -131,13 +131,13 @@ module _ (m : Meaning) (l : Layout) (rs : List Request) where
       epoch = (sight m l rs w).word Epoch
 
       Shape : PartState → Type 0
-      Shape q = (nodes : List ℕ) × (descriptors : List ℕ) × (q ≡ first_part nodes descriptors [])
+      Shape q = (nodes : List ℕ) × (descriptors : List ℕ) × (blocks : List ℕ) × (q ≡ first_part nodes descriptors blocks)
 
       shape : (i : ℕ) → Shape (first_part_of m l i)
-      shape i = each_part m l Shape (_, _, refl) (λ k. (_, _, refl)) (_, _, refl) i
+      shape i = each_part m l Shape (_, _, _, refl) (λ k. (_, _, _, refl)) (_, _, _, refl) i
 
       of_first : (q : PartState) → ((d : ℕ) → d < descriptor_count l → times d q.descriptors.free ≡ cond (owner_of l.sections l.runners d == r) 1 0) → Shape q → IsOwn m l epoch r q
-      of_first q once is = subst (IsOwn m l epoch r) (sym is.2) (first_own epoch r is.0 is.1 (λ d few. sym (ap (λ (a : PartState). times d a.descriptors.free) is.2) ∙ once d few))
+      of_first q once is = subst (IsOwn m l epoch r) (sym is.3) (first_own epoch r is.0 is.1 is.2 (λ d few. sym (ap (λ (a : PartState). times d a.descriptors.free) is.3) ∙ once d few))
 
 -- what is said of descriptors follows
 module _ (m : Meaning) (l : Layout) (s : Sight) (own : Owns m l s) where

@@ -20,7 +20,7 @@ use Rattle.machine_states.specs.runner_parts.specs.State.{RunState, PartState, R
 use Rattle.machine_states.specs.runner_steps.specs.Sections.{thunk_of, is_open_run, line_of, next_of, setting_of, commits_to, needs_link}
 use Rattle.machine_states.specs.runner_parts.specs.Lists.{slot_retired}
 use Rattle.machine_states.specs.runner_steps.specs.InRun.{epoch_for_retire_ask, retire_commit_ask}
-use Rattle.machine_states.specs.runner_parts.specs.block_words.specs.Blocks.{log_spot}
+use Rattle.machine_states.specs.body_terms.specs.block_words.specs.Blocks.{log_spot}
 use Rattle.machine_states.specs.runner_steps.specs.AfterInRun as runs
 use Rattle.machine_states.specs.epoch_core.specs.declared.location.Location.{Location}
 use Rattle.machine_states.specs.epoch_core.specs.declared.location.Location.TheVariants.{Live, Hand}

@@ -21,10 +21,10 @@ use Rattle.machine_states.specs.runner_steps.specs.Sections.{thunk_of, is_open_r
 use Rattle.machine_states.specs.runner_parts.specs.Tests.{has}
 use Rattle.machine_states.specs.runner_parts.specs.Lists.{without, slot_taken, slot_made, slot_back}
 use Rattle.machine_states.specs.runner_steps.specs.InRun.{last_of, make_slot, is_slot, fill_load_ask, private_store_in_run_ask, link_commit_ask, make_commit_ask}
-use Rattle.machine_states.specs.runner_parts.specs.block_words.specs.Blocks.{log_spot}
+use Rattle.machine_states.specs.body_terms.specs.block_words.specs.Blocks.{log_spot}
 use Rattle.machine_states.specs.runner_steps.specs.AfterInRun as runs
 use Rattle.machine_states.specs.runner_steps.specs.Outside.{block_spot, blocks_from}
-use Rattle.machine_states.specs.runner_parts.specs.block_words.specs.Blocks.{link_spot}
+use Rattle.machine_states.specs.body_terms.specs.block_words.specs.Blocks.{link_spot}
 use Rattle.machine_states.specs.epoch_core.specs.declared.location.Location.{Location}
 use Rattle.machine_states.specs.epoch_core.specs.declared.location.Location.TheVariants.{Live, Hand, Free}
 use Rattle.machine_states.specs.epoch_core.specs.Moves as moves

@@ -21,7 +21,7 @@ use Rattle.machine_states.specs.runner_parts.specs.declared.event.EventKind.{Eve
 use Rattle.machine_states.specs.runner_parts.specs.declared.event.EventKind.TheVariants as kinds
 use Rattle.machine_states.specs.runner_parts.specs.declared.entries.Look.{Look}
 use Rattle.machine_states.specs.runner_parts.specs.State.{RunState, PartState}
-use Rattle.machine_states.specs.runner_parts.specs.block_words.specs.Blocks.{part_spot, link_spot}
+use Rattle.machine_states.specs.body_terms.specs.block_words.specs.Blocks.{part_spot, link_spot}
 use Rattle.machine_states.specs.runner_steps.specs.Asks.{opening_ask, outside_ask, line_ask, inside_ask, ask_by}
 use Rattle.machine_states.specs.runner_steps.specs.InRun.{commit_to, commit_ask, make_commit_to, make_commit_ask, retire_commit_ask, outcome_commit_ask, load_cell_ask, exchange_cell_ask, fill_load_ask, fill_store_ask, epoch_for_retire_ask, clock_load_ask, stamp_exchange_ask, clock_raise_ask, reply_exchange_ask, nested_load_ask, nested_hold_ask, outcome_load_ask, set_done_ask, release_ask}
 use Rattle.machine_states.specs.runner_steps.specs.Outside.{Ask, when, descriptor_spot, block_spot, blocks_from, enter_load_ask, announce_ask, enter_again_by, scan_one_ask, advance_ask, entry_spot}

@@ -11,7 +11,7 @@ use Rattle.machine_states.specs.table_words.specs.declared.access.Access.TheVari
 use Rattle.machine_states.specs.table_words.specs.Limits.{IsWithinLimits}
 use Rattle.machine_states.specs.structure_laws.specs.Meaning.{Meaning}
 use Rattle.machine_states.specs.structure_laws.specs.Laws.{Laws}
-use Rattle.machine_states.specs.runner_parts.specs.block_words.specs.Blocks.{log_spot, log_in}
+use Rattle.machine_blocks.specs.block_words.specs.Blocks.{log_spot, log_in}
 use Rattle.machine_states.specs.runner_parts.specs.declared.event.EventKind.{EventKind}
 use Rattle.machine_states.specs.runner_parts.specs.State.{RunState}
 use Rattle.machine_states.specs.runner_parts.specs.Tests.{has}

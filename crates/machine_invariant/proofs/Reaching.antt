@@ -102,6 +102,5 @@ module _ (m : Meaning) (laws : Laws m) (l : Layout) (limits : IsWithinLimits l) 
           most = whole.logs.stands.most;
         };
         beyond = whole.logs.beyond;
-        none = whole.logs.none;
       };
     }

@@ -26,7 +26,7 @@ use Rattle.machine_blocks.specs.machine_guards.specs.machine_agreement.specs.mac
 use Rattle.machine_blocks.specs.machine_guards.specs.machine_agreement.specs.machine_epochs.proofs.ReadsAsked as reads
 use Rattle.machine_blocks.specs.machine_guards.specs.machine_agreement.specs.machine_epochs.proofs.BoardAsked as board
 use Rattle.machine_states.specs.table_words.specs.Places.{part_words}
-use Rattle.machine_states.specs.runner_parts.specs.block_words.specs.Blocks.{part_spot, link_spot, log_spot}
+use Rattle.machine_blocks.specs.block_words.specs.Blocks.{part_spot, link_spot, log_spot}
 use Rattle.machine_blocks.specs.machine_guards.specs.machine_agreement.specs.machine_epochs.proofs.Places.{spot_by}
 
 -- the step leaves every thunk word

@@ -12,6 +12,9 @@ nodes_below nodes k runners h few = let step = mul-le-mul_left nodes (let le : k
 pub sections_below : (sections k runners : ℕ) → k < runners → sections ≤ 1024 → runners ≤ 16 → sections * k + sections ≤ 16384
 sections_below sections k runners h few small = let step = mul-le-mul_left sections (let le : k + 1 ≤ 16 = omega arith in le) in omega (arith, step)
 
+pub blocks_below : (blocks k runners : ℕ) → k < runners → blocks ≤ 8200 → runners ≤ 16 → blocks * k + blocks ≤ 131200
+blocks_below blocks k runners h few small = let step = mul-le-mul_left blocks (let le : k + 1 ≤ 16 = omega arith in le) in omega (arith, step)
+
 -- one more number
 pub falling_next : (from n count below : ℕ) (xs : List ℕ) → below < count → n ≡ count - 1 - below → (xs ++ (from + n) ∷ []) ++ falling from (count - (below + 1)) ≡ xs ++ falling from (count - below)
 falling_next from n count below xs h is =

@@ -6,4 +6,3 @@ pub mod Updates
 pub mod FirstSights
 pub mod Reached
 pub mod Marks
-pub mod Blockless

@@ -1,9 +1,7 @@
 pub mod World
 pub mod First
 pub mod Schedules
-pub mod Blockless
 pub mod Sight
-pub mod Full
 pub mod Reached
 -- Passed on to the layers above, so that they needn't name these libraries themselves.
 pub use Rattle.runner_steps.specs.runner_parts.specs.guard_core

@@ -19,7 +19,7 @@ use Rattle.machine_states.specs.structure_laws.specs.Meaning.{Meaning}
 use Rattle.machine_states.specs.structure_laws.specs.Laws.{Laws}
 use Rattle.machine_states.specs.runner_parts.specs.declared.event.EventKind.TheVariants as kinds
 use Rattle.machine_states.specs.runner_parts.specs.State.{RunState, PartState, BlocksState}
-use Rattle.machine_states.specs.runner_parts.specs.block_words.specs.Blocks.{log_spot, blocks_for}
+use Rattle.machine_states.specs.body_terms.specs.block_words.specs.Blocks.{log_spot, blocks_for}
 use Rattle.machine_states.specs.runner_steps.specs.Sections.{line_of, next_of, commits_to, needs_link}
 use Rattle.machine_states.specs.runner_steps.specs.AfterInRun.{goes_on, agrees}
 use Rattle.machine_states.specs.Sight.{part_or_first}

@@ -33,7 +33,7 @@ use Rattle.machine_states.specs.runner_parts.specs.Tests.{has}
 use Rattle.machine_states.specs.runner_steps.specs.Sections.{thunk_of, is_open_run, line_of, next_of, commits_to, is_beyond, needs_link}
 use Rattle.machine_states.specs.runner_steps.specs.InRun.{can_hold, make_slot, is_slot, last_clock}
 use Rattle.machine_states.specs.runner_steps.specs.InRun.{commit_to, make_commit_to, block_empty_ask, fill_store_ask}
-use Rattle.machine_states.specs.runner_parts.specs.block_words.specs.Blocks.{part_spot, link_spot, log_spot}
+use Rattle.machine_states.specs.body_terms.specs.block_words.specs.Blocks.{part_spot, link_spot, log_spot}
 use Rattle.machine_states.specs.runner_steps.specs.Asks.{line_ask, inside_ask, ask_by}
 use Rattle.machine_states.specs.runner_steps.specs.AfterInRun.{place_of}
 use Rattle.machine_states.specs.runner_steps.specs.Outside.{Ask, when, block_spot, blocks_from}
@@ -72,7 +72,7 @@ use Rattle.next_steps.proofs.Standing.{IsOwn, own_node}
 use Rattle.next_steps.proofs.Filling.{low_cell, fill_log}
 use Rattle.next_steps.proofs.RoomsKept.{made_hand}
 use Rattle.next_steps.proofs.RoomsReached.{reached_rooms}
-use Rattle.next_steps.proofs.Lines.{next_no_check, shape, ordered, run_open}
+use Rattle.next_steps.proofs.Lines.{next_no_check, shape, brief, ordered, run_open}
 use Rattle.machine_invariant.proofs.Basics.{both_hold}
 
 -- a cell of a slot of the table is one of the table's
@@ -510,6 +510,7 @@ module _ (m : Meaning) (laws : Laws m) (l : Layout) (limits : IsWithinLimits l) 
     most = (known.next r q is).most;
     thunk = λ all. fits_here all;
     body = λ all. shape m l g s whole r q is all;
+    brief = λ all. brief m l g s whole r q is all;
     goes = λ all. opened all;
   }
 

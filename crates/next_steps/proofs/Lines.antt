@@ -8,6 +8,7 @@ use Rattle.machine_states.specs.body_terms.specs.declared.micro.Micro.{Micro}
 use Rattle.machine_states.specs.body_terms.specs.declared.micro.Micro.TheVariants as micros
 use Rattle.machine_states.specs.body_terms.specs.declared.step.Step.{Step}
 use Rattle.machine_states.specs.body_terms.specs.declared.thunk.Thunk.{Thunk}
+use Rattle.machine_states.specs.body_terms.specs.Cost.{run_cost}
 use Rattle.machine_states.specs.body_terms.specs.Shape.{IsShaped}
 use Rattle.machine_states.specs.body_terms.specs.Line.{is_check, is_end, is_event, micro_at, releases, ending}
 use Rattle.agreement_core.specs.section_lines.specs.Line.{IsInPhases, IsOrdered}
@@ -15,6 +16,7 @@ use Rattle.agreement_core.specs.section_lines.proofs.Ordered.{is_ordered}
 use Rattle.agreement_core.specs.section_lines.proofs.Phases.{is_in_phases}
 use Rattle.machine_states.specs.table_words.specs.declared.layout.Layout.{Layout}
 use Rattle.machine_states.specs.structure_laws.specs.Meaning.{Meaning}
+use Rattle.machine_states.specs.structure_laws.specs.Shape.{most_of_run}
 use Rattle.machine_states.specs.runner_parts.specs.State.{RunState}
 use Rattle.machine_states.specs.runner_steps.specs.Sections.{thunk_of, line_limit, is_open_run, line_of, next_of}
 use Rattle.machine_states.specs.Sight.{Sight}
@@ -95,6 +97,9 @@ module _ (m : Meaning) (l : Layout) (g : Beside) (s : Sight) (whole : IsWhole m 
 
   pub shape : IsShaped body
   shape = (shaped m l g s whole r q is all).shape
+
+  pub brief : run_cost body ≤ most_of_run
+  brief = (shaped m l g s whole r q is all).brief
 
   phases : IsInPhases (micro_at (line_of m q))
   phases = is_in_phases body shape

@@ -20,7 +20,7 @@ use Rattle.machine_states.specs.runner_parts.specs.State.{RunState, PartState}
 use Rattle.machine_states.specs.runner_steps.specs.Sections.{thunk_of, is_open_run, next_of}
 use Rattle.machine_states.specs.runner_steps.specs.InRun.{load_cell_ask, nested_load_ask, outcome_load_ask}
 use Rattle.machine_states.specs.runner_steps.specs.Outside.{descriptor_spot, block_spot, blocks_from}
-use Rattle.machine_states.specs.runner_parts.specs.block_words.specs.Blocks.{part_spot, link_spot, log_spot}
+use Rattle.machine_states.specs.body_terms.specs.block_words.specs.Blocks.{part_spot, link_spot, log_spot}
 use Rattle.machine_states.specs.runner_steps.specs.Asks.{opening_ask}
 use Rattle.machine_states.specs.runner_steps.specs.Asks.{outside_ask, line_ask, inside_ask, ask_by, asks}
 use Rattle.machine_states.proofs.Sights.{if_some, some_none, unless_gone}

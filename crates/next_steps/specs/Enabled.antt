@@ -1,12 +1,14 @@
 -- The next step of a run is enabled.
 use Rattle.std.specs.Prelude.{ℕ, ◌<◌, ◌≤◌, ◌≡◌, true, false, is_some, List, length, slice_get, Some}
 use Rattle.machine_states.specs.map_history.specs.declared.op.Request.{Request}
+use Rattle.machine_states.specs.body_terms.specs.Cost.{run_cost}
 use Rattle.machine_states.specs.body_terms.specs.Shape.{IsShaped}
 use Rattle.machine_states.specs.table_words.specs.Places.{descriptor_count}
 use Rattle.machine_states.specs.table_words.specs.declared.layout.Layout.{Layout}
 use Rattle.machine_states.specs.table_words.specs.declared.spot.Spot.{Spot}
 use Rattle.machine_states.specs.table_words.specs.declared.access.Access.{Access}
 use Rattle.machine_states.specs.structure_laws.specs.Meaning.{Meaning}
+use Rattle.machine_states.specs.structure_laws.specs.Shape.{most_of_run}
 use Rattle.machine_states.specs.runner_parts.specs.declared.event.EventKind.{EventKind}
 use Rattle.machine_states.specs.runner_parts.specs.State.{RunState, PartState}
 use Rattle.machine_states.specs.runner_steps.specs.Asks.{asks}
@@ -22,13 +24,14 @@ abbrev pub Meets : Meaning → Layout → List Request → ℕ → PartState →
 Meets m l requests r p kind x = asks m l requests r kind p ≡ Some x
 
 -- a run in progress is one of the table's descriptors and loads thirteen words; once it has, its thunk and
--- its body's line are within the table, the body has the shape, and no place of the line and no number of
--- exchanges at the end is refused
+-- its body's line are within the table, the body has the shape and costs few steps, and no place of the line and no
+-- number of exchanges at the end is refused
 pub record IsInTable (m : Meaning) (l : Layout) (requests : List Request) (q : RunState) : Type 0 where
   pub descriptor : q.descriptor < descriptor_count l
   pub most : length q.opened ≤ 13
   pub thunk : length q.opened ≡ 13 → ThunkFits m l requests (thunk_of q.opened)
   pub body : length q.opened ≡ 13 → IsShaped (m.body (thunk_of q.opened))
+  pub brief : length q.opened ≡ 13 → run_cost (m.body (thunk_of q.opened)) ≤ most_of_run
   pub goes : length q.opened ≡ 13 → is_open_run q ≡ true
 
 -- whoever is in a run and wasn't joined has an enabled event: in the opening the next load, and then the

@@ -26,7 +26,7 @@ use Rattle.runner_facts.specs.machine_facts.specs.machine_invariant.specs.Whole.
 use Rattle.resource_bounds.specs.reached_histories.specs.Laws.{HasHistory}
 use Rattle.one_worker.specs.Lone.{IsAnswerOrSpent}
 use Rattle.one_worker.proofs.Cells as cells_of
-use Rattle.machine_states.specs.runner_parts.specs.block_words.specs.Blocks.{log_in}
+use Rattle.machine_states.specs.body_terms.specs.block_words.specs.Blocks.{log_in}
 use Rattle.machine_states.specs.runner_steps.specs.Outside.{is_sure_of}
 use Rattle.runner_facts.specs.machine_facts.specs.machine_invariant.proofs.LogSteps.{IsSure}
 use Rattle.one_worker.proofs.State.{in_line, code_is, sound, log_same}

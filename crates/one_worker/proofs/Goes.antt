@@ -6,7 +6,7 @@ use Rattle.machine_states.specs.body_terms.specs.declared.micro.Micro.{Micro}
 use Rattle.machine_states.specs.body_terms.specs.declared.micro.Micro.TheVariants as micros
 use Rattle.machine_states.specs.body_terms.specs.declared.thunk.Thunk.{Thunk}
 use Rattle.machine_states.specs.table_words.specs.declared.spot.Spot.TheVariants as spots
-use Rattle.machine_states.specs.runner_parts.specs.block_words.specs.Blocks.{log_in}
+use Rattle.machine_states.specs.body_terms.specs.block_words.specs.Blocks.{log_in}
 use Rattle.machine_states.specs.structure_laws.specs.Meaning.{Meaning}
 use Rattle.machine_states.specs.runner_parts.specs.State.{RunState}
 use Rattle.machine_states.specs.Sight.{Sight}

@@ -25,7 +25,7 @@ use Rattle.resource_bounds.specs.machine_scenes.specs.Shown.{rules_of, section_w
 use Rattle.resource_bounds.specs.machine_scenes.proofs.Shown.{shown_open}
 use Rattle.runner_facts.specs.machine_facts.specs.machine_invariant.specs.Whole.{IsWhole}
 use Rattle.resource_bounds.specs.reached_histories.specs.Laws.{HasHistory}
-use Rattle.machine_states.specs.runner_parts.specs.block_words.specs.Blocks.{log_in}
+use Rattle.machine_states.specs.body_terms.specs.block_words.specs.Blocks.{log_in}
 use Rattle.one_worker.proofs.State.{not_both, in_line, code_is}
 use Rattle.one_worker.proofs.Goes.{Goes}
 

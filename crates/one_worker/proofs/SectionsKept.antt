@@ -51,7 +51,7 @@ use Rattle.runner_facts.specs.next_steps.proofs.Parts.{each_part}
 use Rattle.resource_bounds.specs.reached_histories.specs.Laws.{HasHistory}
 use Rattle.runner_facts.proofs.Lines.{commit_unique, rests_behind}
 use Rattle.one_worker.proofs.Lines.{hold_behind}
-use Rattle.machine_states.specs.runner_parts.specs.block_words.specs.Blocks.{log_in}
+use Rattle.machine_states.specs.body_terms.specs.block_words.specs.Blocks.{log_in}
 use Rattle.runner_facts.specs.machine_facts.specs.machine_invariant.specs.machine_blocks.specs.Writes.{carries_word as carries}
 use Rattle.runner_facts.specs.machine_facts.specs.machine_invariant.proofs.LogSteps.{won_word, kept_word, IsSure, Commits}
 use Rattle.runner_facts.proofs.Logs.{log_of, commit_of, log_place}

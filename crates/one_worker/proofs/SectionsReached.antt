@@ -72,9 +72,9 @@ use Rattle.one_worker.proofs.Goes.{Goes}
 use Rattle.one_worker.proofs.SectionsKept.{kept}
 use Rattle.one_worker.proofs.Published.{published}
 use Rattle.one_worker.proofs.Ends.{ends_so}
-use Rattle.machine_states.specs.runner_parts.specs.block_words.specs.Blocks.{log_in, HasBlocks}
-use Rattle.machine_states.specs.runner_parts.specs.block_words.proofs.Parts.{alone as without_blocks}
-use Rattle.machine_states.specs.runner_parts.specs.block_words.proofs.Reading.{read_log}
+use Rattle.machine_states.specs.body_terms.specs.block_words.specs.Blocks.{log_in, HasBlocks}
+use Rattle.machine_states.specs.body_terms.specs.block_words.proofs.Parts.{alone as without_blocks}
+use Rattle.machine_states.specs.body_terms.specs.block_words.proofs.Reading.{read_log}
 use Rattle.runner_facts.specs.machine_facts.specs.machine_invariant.proofs.LogSteps.{IsSure, Commits, reached_log_goes}
 
 -- what a list has it has with one more, and what it has then at a place below its end it had

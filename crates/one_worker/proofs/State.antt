@@ -31,7 +31,7 @@ use Rattle.resource_bounds.specs.machine_scenes.proofs.JointSteps.{hand_status}
 use Rattle.runner_facts.specs.machine_facts.specs.machine_invariant.specs.Whole.{states_of, IsWhole}
 use Rattle.resource_bounds.specs.reached_histories.specs.Laws.{HasHistory}
 use Rattle.runner_facts.proofs.Logs.{log_of, log_place}
-use Rattle.machine_states.specs.runner_parts.specs.block_words.specs.Blocks.{log_in}
+use Rattle.machine_states.specs.body_terms.specs.block_words.specs.Blocks.{log_in}
 use Rattle.runner_facts.specs.machine_facts.specs.machine_invariant.specs.machine_blocks.proofs.Holding.{log_read}
 use Rattle.runner_facts.specs.machine_facts.specs.machine_invariant.proofs.LogSteps.{IsSure}
 

@@ -63,7 +63,7 @@ use Rattle.resource_bounds.proofs.Releases.{released_done}
 use Rattle.resource_bounds.proofs.Sections.{reply_new, publisher, unreplied, answers_new}
 use Rattle.machine_states.specs.body_terms.specs.Run.{written_once}
 use Rattle.machine_states.specs.table_words.proofs.Seen.{put_here}
-use Rattle.machine_states.specs.runner_parts.specs.block_words.specs.Blocks.{log_spot, log_in}
+use Rattle.machine_states.specs.body_terms.specs.block_words.specs.Blocks.{log_spot, log_in}
 use Rattle.machine_states.specs.runner_steps.specs.Outside.{is_sure_of}
 use Rattle.machine_states.specs.runner_steps.specs.AfterInRun as inside
 use Rattle.machine_states.proofs.Reached.{more_reached}

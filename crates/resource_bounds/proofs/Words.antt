@@ -28,7 +28,7 @@ use Rattle.machine_epochs.proofs.InsideAsked as inside
 use Rattle.machine_epochs.proofs.OutsideAsked as outside
 use Rattle.machine_epochs.proofs.BoardAsked as board
 use Rattle.machine_epochs.proofs.ReadsAsked as reads
-use Rattle.machine_states.specs.runner_parts.specs.block_words.specs.Blocks.{part_spot, link_spot, log_spot}
+use Rattle.machine_states.specs.body_terms.specs.block_words.specs.Blocks.{part_spot, link_spot, log_spot}
 
 -- the kinds that may change a cell: in a run, and outside one
 abbrev pub changes_inside : EventKind → Bool

@@ -211,6 +211,7 @@ pub fn link_commit_ask(
     block: u32,
     micro: &Micro,
 ) -> Option<(Spot, Access)>
+    requires { IsWithinLimits layout }
     ensures { result ≡ link_commit_ask layout block run.now micro.now }
 {
     if needs_link(run, micro)

@@ -2,9 +2,9 @@
 ghost use Rattle.std.specs.Prelude.{◌≡◌, ◌<◌, ◌+◌, ◌^◌, None, length};
 ghost use Rattle.runner_steps.specs.runner_parts.specs.Tests.{last_stored, is_some_of, are_stored, is_prepared};
 
-use runner_steps::block_words::table_words::PART_WORDS;
 use runner_steps::body_terms::Thunk;
 use runner_steps::runner_parts::{Stored, thunk_words};
+use runner_steps::table_words::PART_WORDS;
 
 /// What was stored or found last in this word of the descriptor, if anything was.
 pub fn last_stored(stored: &[Stored], descriptor: u32, word: u32) -> Option<u64>

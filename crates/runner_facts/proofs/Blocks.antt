@@ -6,7 +6,7 @@ use Rattle.std.proofs.lemmas.Bool.Decides.{nat_tests}
 use Rattle.std.proofs.lemmas.List.{length-map}
 use Rattle.machine_states.specs.map_history.specs.declared.op.Request.{Request}
 use Rattle.machine_states.specs.epoch_core.specs.Lists.{times}
-use Rattle.machine_states.specs.epoch_core.specs.small_lemmas.proofs.Numbers.{not_less_tested, self_tested}
+use Rattle.section_lines.specs.small_lemmas.proofs.Numbers.{not_less_tested, self_tested}
 use Rattle.machine_states.specs.table_words.specs.declared.layout.Layout.{Layout}
 use Rattle.machine_states.specs.table_words.specs.Limits.{IsWithinLimits}
 use Rattle.machine_states.specs.table_words.specs.Places.{worker_blocks, keeper_blocks, block_count, attempt_blocks}

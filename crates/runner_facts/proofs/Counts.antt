@@ -2,7 +2,7 @@
 use Rattle.std.specs.Prelude.{◌==◌, ◌*◌, nat_lt, cond, false}
 use Rattle.std.proofs.Common.{◌≡◌, ℕ, zero, suc, ◌+◌, ◌<◌, List, [], length, refl, ap, ◌∙◌, arith, Option, Some, None}
 use Rattle.std.proofs.lemmas.Bool.Decides.{nat_tests}
-use Rattle.machine_states.specs.epoch_core.specs.small_lemmas.proofs.Numbers.{less_tested, self_tested}
+use Rattle.section_lines.specs.small_lemmas.proofs.Numbers.{less_tested, self_tested}
 use Rattle.machine_states.specs.map_history.specs.declared.op.Request.{Request}
 use Rattle.machine_states.specs.table_words.specs.declared.layout.Layout.{Layout}
 use Rattle.machine_states.specs.table_words.specs.Limits.{IsWithinLimits}

@@ -407,11 +407,11 @@ reached_worn m laws l limits rs allowed w reached r t own =
     (raising_keeps m laws l limits rs allowed (λ s. (i : ℕ) → IsWorn m l s.word (s.part i))
     (λ v start i. subst (λ (p : PartState). IsWorn m l (sight m l rs v).word p) (sym (first_parts m l v.parts start.parts i))
     (FirstJoin.each_part m l (λ p. IsWorn m l (sight m l rs v).word p)
-    (none_worn v _ _) (λ k. none_worn v _ _) (none_worn v _ _) i))
+    (none_worn v _ _ _) (λ k. none_worn v _ _ _) (none_worn v _ _ _) i))
     (λ s s' i kind st rise old. worn_kept m l rs s s' i kind st rise old) w reached r).listed t own
   where
-    none_worn : (v : World) (nodes descriptors : List ℕ) → IsWorn m l (sight m l rs v).word (first_part nodes descriptors [])
-    none_worn v nodes descriptors = record {
+    none_worn : (v : World) (nodes descriptors blocks : List ℕ) → IsWorn m l (sight m l rs v).word (first_part nodes descriptors blocks)
+    none_worn v nodes descriptors blocks = record {
       listed = λ t own. absurd (let z = own in cc);
       tested = λ t worn. absurd (let z = worn in cc);
       filled = λ q t at. some_none q at;

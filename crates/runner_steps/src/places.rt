@@ -41,11 +41,12 @@ pub fn descriptor_count(layout: Layout) -> u32
     layout.sections * layout.runners + layout.runners
 }
 
-/// The number of all blocks. As long as no body agrees on more words than a descriptor has room for, there is none.
-pub fn block_count(_layout: Layout) -> u32
-    ensures { result ≡ block_count _layout }
+/// The number of all blocks.
+pub fn block_count(layout: Layout) -> u32
+    requires { IsWithinLimits layout }
+    ensures { result ≡ block_count layout }
 {
-    0
+    layout.blocks()
 }
 
 /// The place of a cell of a node slot.

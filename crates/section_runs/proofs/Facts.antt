@@ -10,7 +10,7 @@ use Rattle.idem_cell.specs.machine_states.specs.table_words.specs.Limits.{IsWith
 use Rattle.idem_cell.specs.machine_states.specs.structure_laws.specs.Meaning.{Meaning}
 use Rattle.idem_cell.specs.machine_states.specs.structure_laws.specs.Laws.{Laws}
 use Rattle.idem_cell.specs.machine_states.specs.runner_parts.specs.declared.event.EventKind.TheVariants as kinds
-use Rattle.idem_cell.specs.machine_states.specs.runner_parts.specs.block_words.specs.Blocks.{log_in}
+use Rattle.idem_cell.specs.machine_states.specs.body_terms.specs.block_words.specs.Blocks.{log_in}
 use Rattle.idem_cell.specs.machine_states.specs.runner_parts.specs.declared.event.Event.{Event}
 use Rattle.idem_cell.specs.machine_states.specs.runner_parts.specs.State.{RunState, FinishedState, PartState}
 use Rattle.idem_cell.specs.machine_states.specs.runner_steps.specs.Outside.{is_sure_of}

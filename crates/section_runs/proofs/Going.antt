@@ -6,6 +6,7 @@ use Rattle.idem_cell.specs.machine_states.specs.body_terms.specs.declared.micro.
 use Rattle.idem_cell.specs.machine_states.specs.body_terms.specs.declared.step.Step.{Step}
 use Rattle.idem_cell.specs.machine_states.specs.body_terms.specs.Line.{Registers, begins, line, micros, micro_at, micro_count, log_words, is_event, registers_before}
 use Rattle.idem_cell.specs.machine_states.specs.body_terms.specs.Run.{settled}
+use Rattle.idem_cell.specs.machine_states.specs.body_terms.specs.Cost.{run_cost}
 use Rattle.idem_cell.specs.machine_states.specs.body_terms.specs.Shape.{IsStep, IsShaped}
 use Rattle.idem_cell.specs.machine_states.specs.body_terms.proofs.LineLemmas.{micro_within, begins_next, registers_before_next, count_after}
 use Rattle.idem_cell.specs.machine_states.specs.body_terms.proofs.RegisterLemmas.{count_le, count_rises}
@@ -16,7 +17,8 @@ use Rattle.idem_cell.specs.section_lines.proofs.Resting.{run_rests}
 use Rattle.idem_cell.specs.machine_states.specs.table_words.specs.Limits.{IsWithinLimits}
 use Rattle.idem_cell.specs.machine_states.specs.structure_laws.specs.Meaning.{Meaning}
 use Rattle.idem_cell.specs.machine_states.specs.structure_laws.specs.Laws.{Laws}
-use Rattle.idem_cell.specs.machine_states.specs.runner_parts.specs.block_words.specs.Blocks.{blocks_for}
+use Rattle.idem_cell.specs.machine_states.specs.structure_laws.specs.Shape.{most_of_run}
+use Rattle.idem_cell.specs.machine_states.specs.body_terms.specs.block_words.specs.Blocks.{blocks_for}
 use Rattle.idem_cell.specs.machine_states.specs.runner_parts.specs.State.{RunState, NodesState, BlocksState, PartState}
 use Rattle.idem_cell.specs.machine_states.specs.runner_steps.specs.Sections.{thunk_of, line_of, next_of, setting_of, settles}
 use Rattle.nested_lock.specs.machine_facts.specs.machine_invariant.specs.After.{AreAllowed}
@@ -139,6 +141,11 @@ module _ {T : Type 0} (m : Meaning) (laws : Laws m) (t : TableState T) (limits :
   pub shaped : (q : RunState) → IsRunning m r q → IsShaped (m.body (thunk_of q.opened))
   shaped q is = (in_table m laws r.layout (subst IsWithinLimits (sym own.layout) limits) r.requests (subst AreAllowed (sym own.requests) allowed)
       r.number r.part q is.inside).body is.opened
+
+  -- and costs few steps
+  pub brief : (q : RunState) → IsRunning m r q → run_cost (m.body (thunk_of q.opened)) ≤ most_of_run
+  brief q is = (in_table m laws r.layout (subst IsWithinLimits (sym own.layout) limits) r.requests (subst AreAllowed (sym own.requests) allowed)
+      r.number r.part q is.inside).brief is.opened
 
   -- the log has room for what a step agrees on
   pub log_room : (step : Step) → MayGo m step r → length (run_of r).trail + log_words step ≤ 64

@@ -18,7 +18,7 @@ use Rattle.idem_cell.specs.machine_states.specs.table_words.specs.declared.layou
 use Rattle.idem_cell.specs.machine_states.specs.structure_laws.specs.Meaning.{Meaning}
 use Rattle.idem_cell.specs.machine_states.specs.structure_laws.specs.Laws.{Laws}
 use Rattle.idem_cell.specs.machine_states.specs.epoch_core.specs.Lists.{times}
-use Rattle.idem_cell.specs.machine_states.specs.runner_parts.specs.block_words.specs.Blocks.{blocks_for}
+use Rattle.idem_cell.specs.machine_states.specs.body_terms.specs.block_words.specs.Blocks.{blocks_for}
 use Rattle.idem_cell.specs.machine_states.specs.runner_parts.specs.declared.event.EventKind.{EventKind}
 use Rattle.idem_cell.specs.machine_states.specs.runner_parts.specs.declared.event.EventKind.TheVariants as kinds
 use Rattle.idem_cell.specs.machine_states.specs.runner_parts.specs.State.{RunState, BlocksState, PartState}

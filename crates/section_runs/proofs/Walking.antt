@@ -20,7 +20,7 @@ use Rattle.idem_cell.specs.section_lines.specs.Rests as resting
 use Rattle.idem_cell.specs.section_lines.proofs.Places.{step_inside}
 use Rattle.idem_cell.specs.section_lines.proofs.Resting.{run_rests}
 use Rattle.idem_cell.specs.machine_states.specs.structure_laws.specs.Meaning.{Meaning}
-use Rattle.idem_cell.specs.machine_states.specs.runner_parts.specs.block_words.specs.Blocks.{blocks_for}
+use Rattle.idem_cell.specs.machine_states.specs.body_terms.specs.block_words.specs.Blocks.{blocks_for}
 use Rattle.idem_cell.specs.machine_states.specs.runner_parts.specs.State.{RunState, NodesState}
 use Rattle.idem_cell.specs.machine_states.specs.runner_steps.specs.Sections.{thunk_of, setting_of, outcome_or, reply_in}
 use Rattle.idem_cell.specs.machine_states.specs.body_terms.specs.Run.{leaves}

@@ -1,5 +1,6 @@
 -- How a run goes through the steps of its body.
-use Rattle.std.specs.Prelude.{◌≡◌, ◌≢◌, ℕ, suc, ◌+◌, ◌≤◌, ◌<◌, ◌*◌, cond, List, [], ◌++◌, count_by, take, length, false, None}
+use Rattle.std.specs.Prelude.{◌≡◌, ◌≢◌, ℕ, suc, ◌+◌, ◌≤◌, ◌<◌, cond, List, [], ◌++◌, count_by, take, length, false, None}
+pub use Rattle.idem_cell.specs.machine_states.specs.body_terms.specs.Cost.{body_words, body_blocks, body_links}
 use Rattle.idem_cell.specs.machine_states.specs.body_terms.specs.Line.{micro_at, is_event, registers_before, releases}
 use Rattle.idem_cell.specs.machine_states.specs.body_terms.specs.Shape.{IsStep, phase, is_make, is_retire}
 use Rattle.idem_cell.specs.machine_states.specs.body_terms.specs.declared.outcome.Outcome.{Outcome}
@@ -7,26 +8,13 @@ use Rattle.idem_cell.specs.machine_states.specs.body_terms.specs.declared.outcom
 use Rattle.idem_cell.specs.machine_states.specs.body_terms.specs.declared.step.Step.{Step}
 use Rattle.idem_cell.specs.section_lines.specs.Rests.{rests, taken_releases}
 use Rattle.idem_cell.specs.machine_states.specs.structure_laws.specs.Meaning.{Meaning}
-use Rattle.idem_cell.specs.machine_states.specs.runner_parts.specs.block_words.specs.Blocks.{blocks_for}
 use Rattle.idem_cell.specs.machine_states.specs.runner_parts.specs.declared.entries.Retired.{Retired}
 use Rattle.idem_cell.specs.machine_states.specs.runner_parts.specs.State.{RunState, NodesState}
 use Rattle.idem_cell.specs.machine_states.specs.runner_steps.specs.Sections.{thunk_of, setting_of, outcome_of, line_of}
 use Rattle.idem_alloc.specs.commit_log.specs.version_words.specs.RunnerState.{RunnerState}
 use Rattle.idem_alloc.specs.commit_log.specs.Runs.{IsRunning}
 use Rattle.idem_alloc.specs.commit_log.specs.next_steps.specs.Steps.{stock}
-use Rattle.idem_alloc.specs.commit_log.specs.Links.{link_cost}
 use Rattle.section_runs.specs.Reached.{run_of}
-
--- a run of a body that goes through all its steps agrees on so many words
-abbrev pub body_words : List Step → ℕ
-body_words body = (registers_before body (length body)).count
-
--- so many blocks its log needs beside the descriptor, and so many steps at most a run makes to link them
-abbrev pub body_blocks : List Step → ℕ
-body_blocks body = blocks_for (body_words body)
-
-abbrev pub body_links : List Step → ℕ
-body_links body = link_cost * body_blocks body
 
 -- what a step of a body leaves of the own node slots: a Make may take one off the free list, a Retire may put one into
 -- limbo

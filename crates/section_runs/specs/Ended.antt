@@ -14,7 +14,7 @@ use Rattle.idem_cell.specs.machine_states.specs.body_terms.specs.declared.thunk.
 use Rattle.idem_cell.specs.machine_states.specs.table_words.specs.declared.spot.Spot.TheVariants.{Cell, DoneWord}
 use Rattle.idem_cell.specs.runner_gate.specs.Asks.{Asks}
 use Rattle.idem_cell.specs.machine_states.specs.structure_laws.specs.Meaning.{Meaning}
-use Rattle.idem_cell.specs.machine_states.specs.runner_parts.specs.block_words.specs.Blocks.{log_in}
+use Rattle.idem_cell.specs.machine_states.specs.body_terms.specs.block_words.specs.Blocks.{log_in}
 use Rattle.idem_cell.specs.machine_states.specs.runner_parts.specs.declared.entries.Retired.{Retired}
 use Rattle.idem_cell.specs.machine_states.specs.runner_parts.specs.State.{NodesState, BlocksState, FinishedState}
 use Rattle.idem_cell.specs.machine_states.specs.runner_parts.specs.Tests.{is_answered}

@@ -2,7 +2,7 @@
 use Rattle.std.specs.Prelude.{◌≡◌, ℕ, zero, suc, true, false, [], slice_get, Option, Some, None}
 use Rattle.idem_cell.specs.machine_states.specs.structure_laws.specs.Meaning.{Meaning}
 use Rattle.idem_cell.specs.machine_states.specs.epoch_core.specs.declared.stage.Stage.TheVariants as stages
-use Rattle.idem_cell.specs.machine_states.specs.runner_parts.specs.block_words.specs.Blocks.{blocks_for}
+use Rattle.idem_cell.specs.machine_states.specs.body_terms.specs.block_words.specs.Blocks.{blocks_for}
 use Rattle.idem_cell.specs.machine_states.specs.runner_parts.specs.declared.entries.Published.{Published}
 use Rattle.idem_cell.specs.machine_states.specs.runner_parts.specs.State.{RunState}
 use Rattle.idem_cell.specs.machine_states.specs.runner_steps.specs.Outside.{is_sure_of}

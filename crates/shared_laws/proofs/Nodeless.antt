@@ -21,7 +21,7 @@ use Rattle.structure_laws.specs.Gives.{GivesLaw}
 use Rattle.structure_laws.specs.Laws.{IsFirst}
 use Rattle.structure_laws.specs.Planner.{Adds, AreInUse}
 use Rattle.structure_laws.proofs.Changes.{upd_same, upd_other}
-use Rattle.structure_laws.proofs.Costs.{shaped_cost}
+use Rattle.structure_laws.proofs.Costs.{brief_cost}
 use Rattle.shared_laws.specs.Nodeless.{NoneLive, IsNodeless, HoldsItsLock, IsPlainBody}
 
 module _ (m : Meaning) (n : IsNodeless m) where
@@ -106,7 +106,7 @@ module _ (m : Meaning) (n : IsNodeless m) where
   pub nodeless_shaped : (layout : Layout) (readings : Readings) (thunk : Thunk) → IsPlainBody m thunk → Shaped m layout readings thunk
   nodeless_shaped layout readings thunk b = record {
     shape = b.shape;
-    brief = shaped_cost (m.body thunk) b.shape;
+    brief = brief_cost (m.body thunk) b.shape b.few_steps;
     outer_lock = b.lock;
     outer_known = inl b.lock_fixed;
     take_lock = λ j l w h. absurd (no_take thunk j l w h);

@@ -1,5 +1,5 @@
 -- Structures without nodes: all that they store stands in fixed cells, and each section holds one lock and no other.
-use Rattle.std.specs.Prelude.{◌≡◌, ℕ, ◌<◌, Bool, true, false}
+use Rattle.std.specs.Prelude.{◌≡◌, ℕ, ◌<◌, ◌≤◌, Bool, true, false, length}
 use Rattle.structure_laws.specs.map_history.specs.declared.op.Op.{Op}
 use Rattle.structure_laws.specs.map_history.specs.Keys.{DependsOn}
 use Rattle.structure_laws.specs.body_terms.specs.Shape.{IsShaped}
@@ -54,11 +54,12 @@ module _ (m : Meaning) where
         → m.fits layout a readings first ≡ true → m.fits layout b others second ≡ true
         → DependsOn a key → DependsOn b key → first.lock ≡ second.lock
 
-  -- what is to be shown of the body of a fitting thunk: it is a body, its lock and the places that it loads
+  -- what is to be shown of the body of a fitting thunk: it is a body of few steps, its lock and the places that it loads
   -- are fixed cells, a place is loaded once and a register stored to once, what is stored has 32 bits, and
   -- the answer isn't 0
   pub record IsPlainBody (thunk : Thunk) : Type 0 where
     pub shape : IsShaped (m.body thunk)
+    pub few_steps : length (m.body thunk) ≤ 23
     pub lock : m.is_lock thunk.lock ≡ true
     pub lock_fixed : thunk.lock < m.fixed_cells
     pub load_fixed : (j p r : ℕ) → HasStep m thunk j (Load p r) → p < m.fixed_cells

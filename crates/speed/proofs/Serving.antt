@@ -6,9 +6,9 @@ use Rattle.std.proofs.Math.Nat.{mod-one}
 use Rattle.machine_states.specs.map_history.specs.declared.op.Request.{Request}
 use Rattle.machine_states.specs.table_words.specs.declared.layout.Layout.{Layout}
 use Rattle.machine_states.specs.runner_parts.specs.Tests.{is_answered}
-use Rattle.serving.specs.attempt_bounds.specs.version_words.specs.RunnerState.{RunnerState}
-use Rattle.serving.specs.attempt_bounds.specs.version_words.specs.TableState.{TableState, IsOf}
-use Rattle.hash_table.specs.try_lock.specs.Planning.{Planning}
+use Rattle.table_steps.specs.version_words.specs.RunnerState.{RunnerState}
+use Rattle.table_steps.specs.version_words.specs.TableState.{TableState, IsOf}
+use Rattle.try_lock.specs.Planning.{Planning}
 use Rattle.serving.specs.Serving.{MayServe}
 use Rattle.speed.specs.declared.attempt_rounds.kinds.Kind.{Kind}
 use Rattle.speed.specs.Asked.{requests_of}

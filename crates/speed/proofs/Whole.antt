@@ -2,29 +2,29 @@
 use Rattle.std.proofs.Common.{◌≡◌, ℕ, zero, suc, ◌+◌, ◌<◌, ◌≤◌, List, [], ◌∷◌, ◌++◌, length, Bool, true, false, refl, sym, ap, subst, ◌∙◌, eq-eqb, arith, Option, Result, Ok, Some, None, inl, inr, slice_get}
 use Rattle.std.specs.Prelude.{◌==◌, ◌&&◌, ◌||◌, not, cond, if◌then◌else◌, ◌%◌}
 use Rattle.std.proofs.lemmas.Bool.Decides.{nat_tests}
-use Rattle.runner_steps.specs.table_words.specs.small_lemmas.proofs.Bools.{or_second as either}
-use Rattle.runner_steps.specs.body_terms.specs.Trail.{Agreed}
-use Rattle.runner_steps.specs.body_terms.specs.Word.{value_of, version_of, is_free, is_spent}
-use Rattle.runner_steps.specs.body_terms.specs.declared.outcome.Outcome.{Outcome}
-use Rattle.runner_steps.specs.body_terms.specs.declared.outcome.Refused.{Refused}
-use Rattle.runner_steps.specs.body_terms.specs.declared.thunk.Thunk.{Thunk}
-use Rattle.runner_steps.specs.table_words.specs.Places.{attempt_blocks}
-use Rattle.runner_steps.specs.table_words.specs.declared.layout.Layout.{Layout}
-use Rattle.runner_steps.specs.runner_parts.specs.structure_laws.specs.Tray.{tray}
-use Rattle.runner_steps.specs.runner_parts.specs.declared.entries.Known.{Known}
-use Rattle.runner_steps.specs.runner_parts.specs.declared.entries.Published.{Published}
-use Rattle.runner_steps.specs.runner_parts.specs.declared.event.EventKind.TheVariants as kinds
-use Rattle.runner_steps.specs.runner_parts.specs.epoch_core.specs.declared.stage.Stage.TheVariants as stages
-use Rattle.runner_steps.specs.runner_parts.specs.State.{DescriptorsState, GuardsState, NodesState, ReadsState}
-use Rattle.runner_steps.specs.runner_parts.specs.Tests.{has_pair, is_open, is_next, is_answered, knows, serves, is_between}
+use Rattle.machine_states.specs.epoch_core.specs.small_lemmas.proofs.Bools.{or_second as either}
+use Rattle.machine_states.specs.body_terms.specs.Trail.{Agreed}
+use Rattle.machine_states.specs.body_terms.specs.Word.{value_of, version_of, is_free, is_spent}
+use Rattle.machine_states.specs.body_terms.specs.declared.outcome.Outcome.{Outcome}
+use Rattle.machine_states.specs.body_terms.specs.declared.outcome.Refused.{Refused}
+use Rattle.machine_states.specs.body_terms.specs.declared.thunk.Thunk.{Thunk}
+use Rattle.machine_states.specs.table_words.specs.Places.{attempt_blocks}
+use Rattle.machine_states.specs.table_words.specs.declared.layout.Layout.{Layout}
+use Rattle.machine_states.specs.structure_laws.specs.Tray.{tray}
+use Rattle.machine_states.specs.runner_parts.specs.declared.entries.Known.{Known}
+use Rattle.machine_states.specs.runner_parts.specs.declared.entries.Published.{Published}
+use Rattle.machine_states.specs.runner_parts.specs.declared.event.EventKind.TheVariants as kinds
+use Rattle.machine_states.specs.epoch_core.specs.declared.stage.Stage.TheVariants as stages
+use Rattle.machine_states.specs.runner_parts.specs.State.{DescriptorsState, GuardsState, NodesState, ReadsState}
+use Rattle.machine_states.specs.runner_parts.specs.Tests.{has_pair, is_open, is_next, is_answered, knows, serves, is_between}
 use Rattle.runner_steps.specs.AfterInRun.{kept_unless}
 use Rattle.runner_steps.specs.Outside.{is_due}
-use Rattle.try_lock.specs.commit_log.specs.version_words.specs.RunnerState.{RunnerState}
-use Rattle.try_lock.specs.commit_log.specs.version_words.specs.TableState.{TableState, IsOf}
-use Rattle.try_lock.specs.commit_log.specs.version_words.specs.Events.{IsEnabled, Makes}
-use Rattle.try_lock.specs.commit_log.specs.version_words.specs.Naming.{load_of}
-use Rattle.try_lock.specs.commit_log.specs.version_words.specs.Stages.{IsAt}
-use Rattle.try_lock.specs.commit_log.specs.version_words.proofs.Stages.{then_loaded_cell}
+use Rattle.table_steps.specs.version_words.specs.RunnerState.{RunnerState}
+use Rattle.table_steps.specs.version_words.specs.TableState.{TableState, IsOf}
+use Rattle.table_steps.specs.version_words.specs.Events.{IsEnabled, Makes}
+use Rattle.table_steps.specs.version_words.specs.Naming.{load_of}
+use Rattle.table_steps.specs.version_words.specs.Stages.{IsAt}
+use Rattle.table_steps.specs.version_words.proofs.Stages.{then_loaded_cell}
 use Rattle.try_lock.specs.epoch_slots.specs.Entries.{HasLeave, Enters, Exits}
 use Rattle.try_lock.specs.epoch_slots.proofs.Outside.{nodes_made, descriptors_made, no_fewer_blocks, guards_made, reads_made, known_made}
 use Rattle.try_lock.specs.commit_log.specs.Runs.{Ran}

@@ -1,8 +1,8 @@
 -- A table with one worker.
 use Rattle.std.specs.Prelude.{◌≡◌, ℕ, List, [], ◌∷◌}
-use Rattle.runner_steps.specs.map_history.specs.declared.op.Op.TheVariants.{Get}
-use Rattle.runner_steps.specs.map_history.specs.declared.op.Request.{Request}
-use Rattle.try_lock.specs.commit_log.specs.version_words.specs.TableState.{TableState}
+use Rattle.machine_states.specs.map_history.specs.declared.op.Op.TheVariants.{Get}
+use Rattle.machine_states.specs.map_history.specs.declared.op.Request.{Request}
+use Rattle.table_steps.specs.version_words.specs.TableState.{TableState}
 
 -- the first request of a trace of its own
 abbrev pub request_of : ℕ → Request

@@ -1,13 +1,13 @@
 -- The worker on its way to a section and through it.
 use Rattle.std.specs.Prelude.{◌≡◌, ℕ, ◌<◌, ◌≤◌, List, [], true, length, slice_get, Some, None}
-use Rattle.runner_steps.specs.body_terms.specs.declared.thunk.Thunk.{Thunk}
-use Rattle.runner_steps.specs.table_words.specs.Places.{attempt_blocks}
-use Rattle.runner_steps.specs.runner_parts.specs.structure_laws.specs.Tray.{tray}
-use Rattle.runner_steps.specs.runner_parts.specs.declared.entries.Known.{Known}
-use Rattle.runner_steps.specs.runner_parts.specs.epoch_core.specs.declared.stage.Stage.TheVariants as stages
-use Rattle.runner_steps.specs.runner_parts.specs.Tests.{has_pair}
-use Rattle.try_lock.specs.commit_log.specs.version_words.specs.RunnerState.{RunnerState}
-use Rattle.try_lock.specs.commit_log.specs.version_words.specs.Stages.{IsAt}
+use Rattle.machine_states.specs.body_terms.specs.declared.thunk.Thunk.{Thunk}
+use Rattle.machine_states.specs.table_words.specs.Places.{attempt_blocks}
+use Rattle.machine_states.specs.structure_laws.specs.Tray.{tray}
+use Rattle.machine_states.specs.runner_parts.specs.declared.entries.Known.{Known}
+use Rattle.machine_states.specs.epoch_core.specs.declared.stage.Stage.TheVariants as stages
+use Rattle.machine_states.specs.runner_parts.specs.Tests.{has_pair}
+use Rattle.table_steps.specs.version_words.specs.RunnerState.{RunnerState}
+use Rattle.table_steps.specs.version_words.specs.Stages.{IsAt}
 use Rattle.try_lock.specs.epoch_slots.specs.Collects.{IsTidy}
 use Rattle.try_lock.specs.Reached.{IsReached, MayRunSection}
 use Rattle.try_lock.specs.declared.section.Section.{Section}

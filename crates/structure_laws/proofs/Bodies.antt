@@ -2,7 +2,7 @@
 use Rattle.std.proofs.Common.{◌≡◌, ◌≢◌, ℕ, ◌<◌, ◌≤◌, false, refl, sym, ap, ◌∙◌, subst, ⊎_elim, arith}
 use Rattle.std.proofs.lemmas.List.Elements.{All-head, Contains-push}
 use Rattle.std.specs.Prelude.{◌⊎◌, List, [], ◌∷◌, slice_get, All, Contains}
-use Rattle.table_words.specs.small_lemmas.proofs.Lists.{some_same as some_inj}
+use Rattle.body_terms.specs.block_words.specs.table_words.specs.small_lemmas.proofs.Lists.{some_same as some_inj}
 use Rattle.body_terms.specs.declared.value.Value.{Value}
 use Rattle.body_terms.specs.declared.value.Value.TheVariants.{Of}
 use Rattle.body_terms.specs.declared.step.Step.{Step}

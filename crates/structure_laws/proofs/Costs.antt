@@ -1,11 +1,12 @@
--- What a run of a body costs at most, by its shape alone.
+-- What a run of a body costs at most, by its shape and its length.
 use Rattle.std.specs.Prelude.{sum_by, count_by, cond}
 use Rattle.std.proofs.Common.{◌+◌, ◌*◌, ◌≤◌, List, [], ◌∷◌, length, arith}
 use Rattle.std.proofs.lemmas.List.Sums.{sum_by-cons}
-use Rattle.body_terms.specs.Cost.{step_cost, cost_of}
+use Rattle.body_terms.specs.Cost.{step_cost, cost_of, body_blocks, run_cost}
 use Rattle.body_terms.specs.Shape.{is_take, is_make, is_stamp, is_answer, IsShaped}
 use Rattle.body_terms.specs.declared.step.Step.{Step}
 use Rattle.body_terms.specs.declared.step.Step.TheVariants.{Load, Want, Fresh, Take, Make, Stamp, Store, Retire, Answer}
+use Rattle.body_terms.proofs.RegisterLemmas.{count_le}
 use Rattle.structure_laws.specs.Shape.{most_of_run}
 
 -- a step, with the lock that it leaves to be released, makes at most six events but for a Make; a Stamp makes three fewer, an Answer five
@@ -33,10 +34,16 @@ steps_weigh (step ∷ steps) =
     let here = step_weighs step in
     let rest = steps_weigh steps in omega arith
 
-pub shaped_cost : (body : List Step) → IsShaped body → cost_of body ≤ most_of_run
+shaped_cost : (body : List Step) → IsShaped body → cost_of body ≤ 6 * length body + 17
 shaped_cost body whole =
     let weigh = steps_weigh body in
-    let short = whole.short in
     let makes = whole.makes in
     let stamps = whole.stamps in
-    let answers = whole.answers in omega arith
+    let answers = whole.answers in omega (arith, weigh, makes, stamps, answers)
+
+-- each step commits at most two words, so a body of so few steps needs at most six blocks
+pub brief_cost : (body : List Step) → IsShaped body → length body ≤ 23 → run_cost body ≤ most_of_run
+brief_cost body whole few =
+    let line = shaped_cost body whole in
+    let words = count_le body (length body) (omega arith) in
+    let blocks : body_blocks body ≤ 6 = omega (arith, words, few) in omega (arith, line, blocks, few)

@@ -9,7 +9,7 @@ use Rattle.body_terms.specs.declared.step.Step.{Step}
 use Rattle.body_terms.specs.declared.step.Step.TheVariants.{Load, Want, Store}
 use Rattle.body_terms.specs.declared.thunk.Thunk.{Thunk}
 use Rattle.body_terms.specs.Shape.{phase, set_registers}
-use Rattle.table_words.specs.declared.layout.Layout.{Layout}
+use Rattle.body_terms.specs.block_words.specs.table_words.specs.declared.layout.Layout.{Layout}
 use Rattle.structure_laws.specs.Scene.{Cells, Readings, Section, Scene, opened}
 use Rattle.structure_laws.specs.Meaning.{Meaning}
 use Rattle.structure_laws.specs.Sections.{IsAllowed, IsStep, Holds, value_in}

@@ -4,12 +4,12 @@ use Rattle.std.specs.Prelude.{◌==◌, ◌&&◌, ◌-◌, Some, [], ◌∷◌, 
 use Rattle.std.proofs.lemmas.Bool.{true≢false}
 use mathlib.Core.Logic.{dite}
 use native.Mathlib.Decide.{ℕ_discrete}
-use Rattle.table_words.specs.small_lemmas.proofs.Numbers.{zero_not_suc as zero_suc}
+use Rattle.body_terms.specs.block_words.specs.table_words.specs.small_lemmas.proofs.Numbers.{zero_not_suc as zero_suc}
 use Rattle.body_terms.specs.Word.{value_of}
 use Rattle.body_terms.specs.declared.value.Value.{Value}
 use Rattle.body_terms.specs.declared.step.Step.TheVariants.{Want, Store}
 use Rattle.body_terms.specs.declared.thunk.Thunk.{Thunk}
-use Rattle.table_words.specs.declared.layout.Layout.{Layout}
+use Rattle.body_terms.specs.block_words.specs.table_words.specs.declared.layout.Layout.{Layout}
 use Rattle.structure_laws.specs.Scene.{Readings, Section, Live, Scene}
 use Rattle.structure_laws.specs.Sections.{Here, Settled}
 use Rattle.structure_laws.specs.Sound.{Sound}

@@ -3,7 +3,7 @@ use Rattle.std.proofs.Common.{◌≡◌, ◌≢◌, ℕ, suc, ◌+◌, ◌*◌, 
 use Rattle.std.specs.Prelude.{◌-◌, ◌⊎◌, Some, None, slice_get}
 use mathlib.Core.Logic.{dite}
 use native.Mathlib.Decide.{ℕ_discrete}
-use Rattle.table_words.specs.small_lemmas.proofs.Numbers.{zero_not_suc as zero_suc}
+use Rattle.body_terms.specs.block_words.specs.table_words.specs.small_lemmas.proofs.Numbers.{zero_not_suc as zero_suc}
 use Rattle.body_terms.specs.Update.{upd}
 use Rattle.body_terms.specs.Word.{value_of, next_word}
 use Rattle.body_terms.specs.declared.value.Value.{Value}
@@ -11,8 +11,8 @@ use Rattle.body_terms.specs.declared.value.Value.TheVariants.{Const, Made}
 use Rattle.body_terms.specs.declared.value.Init.{Init}
 use Rattle.body_terms.specs.declared.step.Step.{Step}
 use Rattle.body_terms.specs.declared.step.Step.TheVariants.{Load, Want, Fresh, Make, Stamp, Store, Retire, Answer}
-use Rattle.table_words.specs.declared.layout.Layout.{Layout}
-use Rattle.table_words.specs.Limits.{IsWithinLimits}
+use Rattle.body_terms.specs.block_words.specs.table_words.specs.declared.layout.Layout.{Layout}
+use Rattle.body_terms.specs.block_words.specs.table_words.specs.Limits.{IsWithinLimits}
 use Rattle.structure_laws.specs.Scene.{Section, Status, Free, Live, Retired, Scene, with_cell, with_section, with_status, passed, passed_with, opened, passes, sets}
 use Rattle.structure_laws.proofs.Limits.{links_small, value-small}
 use Rattle.structure_laws.specs.Sections.{Here, IsStep, value_in}

@@ -7,9 +7,9 @@ use Rattle.body_terms.specs.Word.{value_of}
 use Rattle.body_terms.specs.declared.value.Value.{Value}
 use Rattle.body_terms.specs.declared.value.Value.TheVariants.{Const, Made}
 use Rattle.body_terms.specs.declared.value.Init.{Init}
-use Rattle.table_words.specs.declared.layout.Layout.{Layout}
-use Rattle.table_words.specs.Limits.{IsWithinLimits}
-use Rattle.table_words.specs.Places.{slot_count}
+use Rattle.body_terms.specs.block_words.specs.table_words.specs.declared.layout.Layout.{Layout}
+use Rattle.body_terms.specs.block_words.specs.table_words.specs.Limits.{IsWithinLimits}
+use Rattle.body_terms.specs.block_words.specs.table_words.specs.Places.{slot_count}
 use Rattle.structure_laws.specs.Scene.{Cells, Section, Status, Free, Live, Scene}
 use Rattle.structure_laws.specs.Sections.{IsSmall, value_in}
 use Rattle.structure_laws.specs.Shape.{ShapeLaw}
@@ -18,10 +18,10 @@ use Rattle.structure_laws.specs.InTurn.{StandsFor, AtStamp, AfterStores, InTurn}
 use Rattle.structure_laws.specs.Laws.{IsFirst, Laws}
 use Rattle.structure_laws.specs.Tray.{Form, Number, Link, Unlink, Other, form_of, operand_of, body_of, tray, zeros}
 use Rattle.structure_laws.proofs.Changes.{upd_other, value-next_word, value_small, equal_of}
-use Rattle.structure_laws.proofs.Costs.{shaped_cost}
+use Rattle.structure_laws.proofs.Costs.{brief_cost}
 use Rattle.structure_laws.proofs.Limits.{links_small, value-small}
 use Rattle.structure_laws.proofs.Steps.{no_take, load_step, store_step, make_step, stamp_step, answer_step}
-use Rattle.structure_laws.proofs.TrayShape.{body_of_shaped}
+use Rattle.structure_laws.proofs.TrayShape.{body_of_shaped, body_of_few}
 use Rattle.structure_laws.proofs.TrayGives.{step_at, tray_gives}
 use Rattle.structure_laws.proofs.TrayKeeps.{tray_keeps}
 
@@ -47,7 +47,7 @@ tray_shape layout s sound kept r readings op thunk reader allowed fits =
     let word = operand_of thunk in
     record {
       shape = body_of_shaped form word;
-      brief = shaped_cost (body_of form word) (body_of_shaped form word);
+      brief = brief_cost (body_of form word) (body_of_shaped form word) (body_of_few form word);
       outer_lock = fits;
       outer_known = inl (let first = equal_of thunk.lock 0 fits in omega arith);
       take_lock = λ j l w h. absurd (no_take form word j l w h);

@@ -1,8 +1,8 @@
 -- The test structure's bodies have the shape of a body.
-use Rattle.std.proofs.Common.{◌≡◌, ℕ, zero, suc, ◌<◌, refl, subst, arith}
+use Rattle.std.proofs.Common.{◌≡◌, ℕ, zero, suc, ◌<◌, ◌≤◌, length, refl, subst, arith}
 use Rattle.std.proofs.lemmas.List.Elements.{All-nil, All-cons}
 use Rattle.std.specs.Prelude.{◌-◌, Some, List, [], ◌∷◌, All}
-use Rattle.table_words.specs.small_lemmas.proofs.Lists.{some_same as some_inj}
+use Rattle.body_terms.specs.block_words.specs.table_words.specs.small_lemmas.proofs.Lists.{some_same as some_inj}
 use Rattle.body_terms.specs.Word.{value_of}
 use Rattle.body_terms.specs.declared.value.Value.{Value}
 use Rattle.body_terms.specs.declared.value.Value.TheVariants.{Const, Of, Made}
@@ -136,3 +136,10 @@ body_of_shaped Number word = number_shaped word
 body_of_shaped Link word = link_shaped word
 body_of_shaped Unlink word = unlink_shaped word
 body_of_shaped Other word = other_shaped word
+
+-- of few steps
+pub body_of_few : (f : Form) (word : ℕ) → length (body_of f word) ≤ 23
+body_of_few Number word = omega arith
+body_of_few Link word = omega arith
+body_of_few Unlink word = omega arith
+body_of_few Other word = omega arith

@@ -2,8 +2,8 @@
 use Rattle.std.specs.Prelude.{ℕ, suc, ◌+◌, ◌*◌, ◌<◌, ◌≤◌, ◌≡◌, ◌⊎◌, true, nat_lt, cond, Some}
 use Rattle.body_terms.specs.Word.{value_of, version_of, pack}
 use Rattle.body_terms.specs.Memory as memory
-use Rattle.table_words.specs.declared.layout.Layout.{Layout}
-use Rattle.table_words.specs.Places.{slot_count}
+use Rattle.body_terms.specs.block_words.specs.table_words.specs.declared.layout.Layout.{Layout}
+use Rattle.body_terms.specs.block_words.specs.table_words.specs.Places.{slot_count}
 use Rattle.structure_laws.specs.Scene.{Readings, Section, Live, Retired, Scene}
 use Rattle.structure_laws.specs.Meaning.{Meaning}
 use Rattle.structure_laws.specs.Sections.{Here}

@@ -5,7 +5,7 @@ use Rattle.map_history.specs.Keys.{HaveNoCommonKey}
 use Rattle.body_terms.specs.Word.{value_of, next_word}
 use Rattle.body_terms.specs.declared.value.Value.{Value}
 use Rattle.body_terms.specs.declared.step.Step.TheVariants.{Load, Store, Retire}
-use Rattle.table_words.specs.declared.layout.Layout.{Layout}
+use Rattle.body_terms.specs.block_words.specs.table_words.specs.declared.layout.Layout.{Layout}
 use Rattle.body_terms.specs.Update.{upd}
 use Rattle.structure_laws.specs.Scene.{Readings, Section, Free, Live, Retired, Scene}
 use Rattle.structure_laws.specs.Meaning.{Meaning}

@@ -5,7 +5,7 @@ use Rattle.map_history.specs.Words.{word_of}
 use Rattle.body_terms.specs.Word.{next_word}
 use Rattle.body_terms.specs.declared.value.Value.{Value}
 use Rattle.body_terms.specs.declared.step.Step.TheVariants.{Load, Stamp, Store, Answer}
-use Rattle.table_words.specs.declared.layout.Layout.{Layout}
+use Rattle.body_terms.specs.block_words.specs.table_words.specs.declared.layout.Layout.{Layout}
 use Rattle.body_terms.specs.Update.{upd}
 use Rattle.structure_laws.specs.Scene.{Cells, Section, Free, Scene}
 use Rattle.structure_laws.specs.Meaning.{Meaning}

@@ -6,7 +6,7 @@ use Rattle.body_terms.specs.declared.value.Value.{Value}
 use Rattle.body_terms.specs.declared.value.Init.{Init}
 use Rattle.body_terms.specs.declared.step.Step.TheVariants.{Load, Want, Fresh, Take, Make, Stamp, Store, Retire, Answer}
 use Rattle.body_terms.specs.declared.thunk.Thunk.{Thunk}
-use Rattle.table_words.specs.declared.layout.Layout.{Layout}
+use Rattle.body_terms.specs.block_words.specs.table_words.specs.declared.layout.Layout.{Layout}
 use Rattle.structure_laws.specs.Scene.{Readings, Section, Free, Live, Retired, Scene, with_cell, with_reader, with_section, with_status, with_reading, opened, passes, sets}
 use Rattle.structure_laws.specs.Meaning.{Meaning}
 use Rattle.structure_laws.specs.Sections.{IsAllowed, value_in, Here, IsStep, Unheld, Settled, Ended}

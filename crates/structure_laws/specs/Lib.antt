@@ -17,4 +17,4 @@ pub mod Ranks
 -- Passed on to the layers above, so that they needn't name these libraries themselves.
 pub use Rattle.body_terms
 pub use Rattle.map_history
-pub use Rattle.table_words
+pub use Rattle.body_terms.specs.block_words.specs.table_words

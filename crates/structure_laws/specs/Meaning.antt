@@ -4,7 +4,7 @@ use Rattle.map_history.specs.declared.op.Op.{Op}
 use Rattle.map_history.specs.Replay.{Pairs}
 use Rattle.body_terms.specs.declared.step.Step.{Step}
 use Rattle.body_terms.specs.declared.thunk.Thunk.{Thunk}
-use Rattle.table_words.specs.declared.layout.Layout.{Layout}
+use Rattle.body_terms.specs.block_words.specs.table_words.specs.declared.layout.Layout.{Layout}
 use Rattle.structure_laws.specs.Scene.{Cells, Readings, Scene}
 
 pub record Meaning : Type 1 where

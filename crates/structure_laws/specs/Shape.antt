@@ -8,16 +8,16 @@ use Rattle.body_terms.specs.declared.value.Init.{Init}
 use Rattle.body_terms.specs.declared.step.Step.{Step}
 use Rattle.body_terms.specs.declared.step.Step.TheVariants.{Load, Take, Make, Store, Answer}
 use Rattle.body_terms.specs.declared.thunk.Thunk.{Thunk}
-use Rattle.body_terms.specs.Cost.{cost_of}
+use Rattle.body_terms.specs.Cost.{run_cost}
 use Rattle.body_terms.specs.Shape.{IsShaped}
-use Rattle.table_words.specs.declared.layout.Layout.{Layout}
+use Rattle.body_terms.specs.block_words.specs.table_words.specs.declared.layout.Layout.{Layout}
 use Rattle.structure_laws.specs.Scene.{Readings, Scene}
 use Rattle.structure_laws.specs.Meaning.{Meaning}
 use Rattle.structure_laws.specs.Sections.{IsAllowed, IsSmall}
 use Rattle.structure_laws.specs.Cells.{cell_of, IsKnown}
 use Rattle.structure_laws.specs.Sound.{Sound}
 
--- one run of a body makes at most so many atomic steps
+-- one run of a body that a structure has makes at most so many atomic steps
 abbrev pub most_of_run : ℕ
 most_of_run = 209
 
@@ -29,8 +29,8 @@ module _ (m : Meaning) where
   pub record Shaped (layout : Layout) (readings : Readings) (thunk : Thunk) : Type 0 where
     -- it is a body
     pub shape : IsShaped (m.body thunk)
-    -- one run of it makes few atomic steps
-    pub brief : cost_of (m.body thunk) ≤ most_of_run
+    -- one run of it makes few atomic steps, with those by which the blocks of its log are linked
+    pub brief : run_cost (m.body thunk) ≤ most_of_run
     -- the outer lock is a lock that the readings give
     pub outer_lock : m.is_lock thunk.lock ≡ true
     pub outer_known : IsKnown m readings thunk.lock

@@ -1,6 +1,6 @@
 //! The test structure meets the laws, and so it keeps a lawful scene by every move.
-ghost use Rattle.table_words.specs.declared.layout.Layout.{Layout};
-ghost use Rattle.table_words.specs.Limits.{IsWithinLimits};
+ghost use Rattle.body_terms.specs.block_words.specs.table_words.specs.declared.layout.Layout.{Layout};
+ghost use Rattle.body_terms.specs.block_words.specs.table_words.specs.Limits.{IsWithinLimits};
 ghost use Rattle.structure_laws.specs.Laws.{Laws};
 ghost use Rattle.structure_laws.specs.Lawful.{Moves};
 ghost use Rattle.structure_laws.specs.Tray.{tray};

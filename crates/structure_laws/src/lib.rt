@@ -18,5 +18,5 @@ pub use tray::tray_links;
 
 // Passed on to the layers above, so that they needn't name these libraries themselves.
 pub use body_terms;
+pub use body_terms::block_words::table_words;
 pub use map_history;
-pub use table_words;

@@ -4,9 +4,9 @@ ghost use Rattle.structure_laws.specs.Meaning.{Meaning};
 ghost use Rattle.structure_laws.specs.Laws.{Laws};
 ghost use Rattle.structure_laws.specs.Cells.{IsFixed};
 
+use body_terms::block_words::table_words::Layout;
 use body_terms::{Body, Place, Thunk, Word};
 use map_history::Op;
-use table_words::Layout;
 
 /// A map, or a structure for tests, over cells and node slots.
 ///

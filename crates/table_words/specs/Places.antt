@@ -16,20 +16,20 @@ descriptor_count layout = layout.sections * layout.runners + layout.runners
 -- a log is kept in parts of so many words: the first part stands in the descriptor, and each further one in a block
 -- that is linked to the part before it
 abbrev pub part_words : ℕ
-part_words = 64
+part_words = 7
 
--- how many blocks a worker has, and the keeper. As long as no body agrees on more words than one part has, none is
--- needed; with parts of seven words they are `8 * sections + 8` and `8 * runners`
+-- how many blocks a worker has, and the keeper. A log goes on in at most eight, so a worker has as many as the logs of
+-- all its descriptors may want, and eight more; the keeper has those for one log of each worker
 abbrev pub worker_blocks : Layout → ℕ
-worker_blocks layout = 0
+worker_blocks layout = 8 * layout.sections + 8
 
 abbrev pub keeper_blocks : Layout → ℕ
-keeper_blocks layout = 0
+keeper_blocks layout = 8 * layout.runners
 
 -- how many free blocks an attempt may want: those for the log of its own section, and those for the log of one that it
--- helps. With parts of seven words they are sixteen
+-- helps
 abbrev pub attempt_blocks : ℕ
-attempt_blocks = 0
+attempt_blocks = 16
 
 -- the number of all blocks
 abbrev pub block_count : Layout → ℕ

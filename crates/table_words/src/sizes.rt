@@ -12,11 +12,11 @@ pub const LINE_WORDS: usize = 16;
 
 /// A section's log is kept in parts of so many words: the first part stands in its descriptor, and each further one in
 /// a block that is linked to the part before it.
-pub const PART_WORDS: usize = 64;
+pub const PART_WORDS: usize = 7;
 
 /// How many free blocks an attempt may want: those for the log of its own section, and those for the log of one that it
 /// helps.
-pub const ATTEMPT_BLOCKS: usize = 0;
+pub const ATTEMPT_BLOCKS: usize = 16;
 
 /// The words of one descriptor: twelve thunk words, a done word, a part of the log and its link.
 pub const DESCRIPTOR_WORDS: usize = 14 + PART_WORDS;
@@ -53,7 +53,7 @@ impl Sizes {
             requests,
             cells: fixed_cells + 5 * slots,
             descriptors: layout.sections * workers + workers,
-            blocks: 0,
+            blocks: layout.blocks(),
         }
     }
 

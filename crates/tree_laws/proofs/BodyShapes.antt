@@ -1,5 +1,5 @@
 -- The tree's bodies have the shape of a body: the test of each of their steps comes to nothing.
-use Rattle.std.proofs.Common.{◌≡◌, ◌≢◌, Bool, true, false, cond, refl, ap, arith}
+use Rattle.std.proofs.Common.{◌≡◌, ◌≢◌, ◌≤◌, length, Bool, true, false, cond, refl, ap, arith}
 use Rattle.std.specs.Prelude.{◌||◌, Some, None, take, nat_lt}
 use Rattle.structure_laws.specs.table_words.specs.small_lemmas.proofs.Numbers.{other_tested}
 use Rattle.structure_laws.specs.body_terms.specs.Word.{value_of}
@@ -11,6 +11,7 @@ use Rattle.structure_laws.specs.body_terms.specs.declared.thunk.Thunk.{Thunk}
 use Rattle.structure_laws.specs.body_terms.specs.Fault.{step_fault}
 use Rattle.structure_laws.specs.body_terms.specs.Shape.{IsShaped}
 use Rattle.shared_laws.proofs.Shaping.{shaped_by}
+use Rattle.tree_bodies.specs.Tree.{Form, Look, Insert, Delete, Replace, Empty, body_of}
 use Rattle.tree_bodies.specs.Tree.{mark_of, inner_with, parent_in}
 use Rattle.tree_bodies.specs.Tree.{look_steps, insert_steps, delete_steps, replace_steps}
 
@@ -60,3 +61,11 @@ module _ (t : Thunk) where
     ),
     refl,
   )
+
+  -- there are few steps
+  pub few_steps : (f : Form) → length (body_of f t) ≤ 23
+  few_steps Look = omega arith
+  few_steps Insert = omega arith
+  few_steps Delete = omega arith
+  few_steps Replace = omega arith
+  few_steps Empty = omega arith

@@ -25,7 +25,7 @@ use Rattle.structure_laws.specs.Cells.{IsKnown, IsSafe}
 use Rattle.structure_laws.specs.Sound.{Sound}
 use Rattle.structure_laws.specs.Shape.{Shaped}
 use Rattle.structure_laws.proofs.Changes.{value_small, both_true}
-use Rattle.structure_laws.proofs.Costs.{shaped_cost}
+use Rattle.structure_laws.proofs.Costs.{brief_cost}
 use Rattle.bucket_laws.specs.Walk.{is_del}
 use Rattle.bucket_laws.proofs.Fit.{PutsIn, puts_given}
 use Rattle.bucket_laws.proofs.TableGives.{reached}
@@ -39,7 +39,7 @@ use Rattle.tree_laws.specs.Search.{IsInner}
 use Rattle.tree_laws.specs.Walk.{Walk, AtRoot, AtEnd, Refused, step_place, step_to, form_for, delete_operands}
 use Rattle.tree_laws.specs.Walk.{operands_for}
 use Rattle.tree_laws.specs.Leaves.{is_lock_place, shows_link, nodes, bounds, walk_of, IsFollowed, IsWalk, TreeKept, tree}
-use Rattle.tree_laws.proofs.BodyShapes.{look_shaped, insert_shaped, delete_shaped, replace_shaped}
+use Rattle.tree_laws.proofs.BodyShapes.{look_shaped, insert_shaped, delete_shaped, replace_shaped, few_steps}
 use Rattle.tree_laws.proofs.Fit.{IsFit, fit_of, cases, look_numbers, is_look, is_insert, is_delete}
 use Rattle.tree_laws.proofs.Fit.{is_replace}
 use Rattle.tree_laws.proofs.Fit.{look_outer, insert_outer, replace_outer, Inserts, inserts, deletes, Replaces, replaces}
@@ -212,7 +212,7 @@ module _ (layout : Layout) (limits : IsWithinLimits layout) (s : Scene) (sound :
     look_is_shaped : Shaped tree layout readings thunk
     look_is_shaped = record {
       shape = subst IsShaped (sym look_body) (look_shaped thunk);
-      brief = shaped_cost (tree_steps thunk) (subst IsShaped (sym look_body) (look_shaped thunk));
+      brief = brief_cost (tree_steps thunk) (subst IsShaped (sym look_body) (look_shaped thunk)) (few_steps thunk (form_of thunk));
       outer_lock = ap is_lock_place look_lock ∙ lock_locked parent;
       outer_known = subst known (sym look_lock) (cell_known parent 0 reads.last_from (omega arith));
       take_lock = λ j l n h. absurd (no_take j l n h);
@@ -299,7 +299,7 @@ module _ (layout : Layout) (limits : IsWithinLimits layout) (s : Scene) (sound :
     insert_is_shaped : Shaped tree layout readings thunk
     insert_is_shaped = record {
       shape = subst IsShaped (sym insert_body) (insert_shaped thunk);
-      brief = shaped_cost (tree_steps thunk) (subst IsShaped (sym insert_body) (insert_shaped thunk));
+      brief = brief_cost (tree_steps thunk) (subst IsShaped (sym insert_body) (insert_shaped thunk)) (few_steps thunk (form_of thunk));
       outer_lock = ap is_lock_place insert_lock ∙ lock_locked parent;
       outer_known = subst known (sym insert_lock) (cell_known parent 0 reads.last_from (omega arith));
       take_lock = λ j l n h. absurd (insert_no_take j l n h);
@@ -390,7 +390,7 @@ module _ (layout : Layout) (limits : IsWithinLimits layout) (s : Scene) (sound :
     replace_is_shaped : Shaped tree layout readings thunk
     replace_is_shaped = record {
       shape = subst IsShaped (sym replace_body) (replace_shaped thunk);
-      brief = shaped_cost (tree_steps thunk) (subst IsShaped (sym replace_body) (replace_shaped thunk));
+      brief = brief_cost (tree_steps thunk) (subst IsShaped (sym replace_body) (replace_shaped thunk)) (few_steps thunk (form_of thunk));
       outer_lock = ap is_lock_place replace_lock ∙ lock_locked parent;
       outer_known = subst known (sym replace_lock) (cell_known parent 0 reads.last_from (omega arith));
       take_lock = λ j l n h. absurd (replace_no_take j l n h);
@@ -533,7 +533,7 @@ module _ (layout : Layout) (limits : IsWithinLimits layout) (s : Scene) (sound :
     delete_is_shaped : Shaped tree layout readings thunk
     delete_is_shaped = record {
       shape = subst IsShaped (sym delete_body) (delete_shaped thunk mark_apart);
-      brief = shaped_cost (tree_steps thunk) (subst IsShaped (sym delete_body) (delete_shaped thunk mark_apart));
+      brief = brief_cost (tree_steps thunk) (subst IsShaped (sym delete_body) (delete_shaped thunk mark_apart)) (few_steps thunk (form_of thunk));
       outer_lock = ap is_lock_place delete_lock ∙ lock_locked grand;
       outer_known = subst known (sym delete_lock) (cell_known grand 0 reads.grand_from (omega arith));
       take_lock = λ j l n h. ap is_lock_place (delete_take_at j l n h).1 ∙ lock_locked parent;

@@ -67,11 +67,7 @@ fn set_words<S: Structure>(
     runner
 }
 
-/// So many words are cleared in a row: the turns that the compiler unrolls.
-const CLEARED: usize = 11;
-
-/// The done word of an own free descriptor, the words of its log and its link become 0. They are set eleven by eleven:
-/// so many turns the compiler unrolls, and not all of them.
+/// The done word of an own free descriptor, the words of its log's first part and its link become 0.
 #[inline(always)]
 fn clear_words<S: Structure>(
     table: &FlockTable<S>,
@@ -85,27 +81,7 @@ fn clear_words<S: Structure>(
     ensures own { IsOf table.now result }
     ensures set { HasSet (S.meaning table.now.structure) descriptor 12 (replicate (part_words + 2) 0) runner result }
 {
-    let mut runner = runner;
-    for part in 0..(PART_WORDS + 2) / CLEARED {
-        let first = 12 + CLEARED * part;
-        runner = set_words(
-            table,
-            runner,
-            descriptor,
-            start,
-            first as u32,
-            &[0; CLEARED],
-        );
-    }
-    let first = 14 + PART_WORDS - (PART_WORDS + 2) % CLEARED;
-    set_words(
-        table,
-        runner,
-        descriptor,
-        start,
-        first as u32,
-        &[0; (PART_WORDS + 2) % CLEARED],
-    )
+    set_words(table, runner, descriptor, start, 12, &[0; PART_WORDS + 2])
 }
 
 /// The words of an own free descriptor become those of a section with this thunk that no run has begun: the

@@ -114,9 +114,9 @@ fn move_of(alloc: Global, text: &str) -> Result<String, AllocError> {
 // The forms over two keys; of form 22 the first key's bucket may be the lower one, as 1 says alone.
 const MOVES: &str = "\
 21 => 7 Ok(()) 29 None
-22 => 19 Ok(()) 50 Some(Load { place: 2, into: 3 })
-22 1 => 19 Ok(()) 50 Some(Load { place: 5, into: 3 })
-22 2 => 19 Ok(()) 50 Some(Load { place: 2, into: 3 })
+22 => 19 Ok(()) 59 Some(Load { place: 2, into: 3 })
+22 1 => 19 Ok(()) 59 Some(Load { place: 5, into: 3 })
+22 2 => 19 Ok(()) 59 Some(Load { place: 2, into: 3 })
 23 => 11 Ok(()) 38 Some(Retire { slot: 0 })
 ";
 

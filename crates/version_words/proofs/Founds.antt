@@ -17,7 +17,7 @@ use Rattle.machine_states.specs.structure_laws.specs.Meaning.{Meaning}
 use Rattle.machine_states.specs.structure_laws.specs.Laws.{Laws}
 use Rattle.machine_states.specs.runner_parts.specs.State.{RunState, PartState}
 use Rattle.machine_states.specs.runner_steps.specs.Sections.{line_of, commits_to, is_beyond}
-use Rattle.machine_states.specs.runner_parts.specs.block_words.specs.Blocks.{link_spot, log_spot}
+use Rattle.machine_states.specs.body_terms.specs.block_words.specs.Blocks.{link_spot, log_spot}
 use Rattle.machine_states.specs.runner_steps.specs.Asks.{sizes_for}
 use Rattle.machine_states.specs.Sight.{sight, part_or_first}
 use Rattle.machine_invariant.specs.After.{AreAllowed}

@@ -20,9 +20,10 @@ use Rattle.machine_states.specs.table_words.specs.declared.access.Access.{Access
 use Rattle.machine_states.specs.table_words.specs.declared.access.Access.TheVariants.{Exchanges}
 use Rattle.machine_states.specs.table_words.specs.Limits.{IsWithinLimits}
 use Rattle.machine_states.specs.table_words.specs.Places.{part_words, block_words, block_count}
+use Rattle.machine_states.specs.table_words.proofs.Counts.{few_blocks as blocks_few}
 use Rattle.machine_states.specs.structure_laws.specs.Meaning.{Meaning}
 use Rattle.machine_states.specs.structure_laws.specs.Laws.{Laws}
-use Rattle.machine_states.specs.runner_parts.specs.block_words.specs.Blocks.{link_spot}
+use Rattle.machine_states.specs.body_terms.specs.block_words.specs.Blocks.{link_spot}
 use Rattle.machine_states.specs.runner_parts.specs.declared.event.EventKind.{EventKind}
 use Rattle.machine_states.specs.runner_parts.specs.declared.event.EventKind.TheVariants as kinds
 use Rattle.machine_states.specs.runner_parts.specs.State.{RunState, PartState}
@@ -47,7 +48,7 @@ use Rattle.version_words.proofs.Asked.{unless_gone, tested}
 use Rattle.version_words.proofs.BlockSteps.{linked}
 use Rattle.version_words.proofs.Keeps.{KeepsPart, was_part, part_is, then_kept_with}
 use Rattle.version_words.proofs.Founds.{link_word}
-use Rattle.version_words.proofs.Inside.{PlacesRun, both_true, few_descriptors, goes_inside, places, step_is}
+use Rattle.version_words.proofs.Inside.{PlacesRun, both_true, goes_inside, places, step_is}
 use Rattle.version_words.proofs.NextWords.{next_agreed, few_agreed}
 use Rattle.version_words.proofs.Privates.{IsOpenFor, slot_is, open_inside}
 use Rattle.version_words.proofs.Shows.{seen_before}
@@ -69,7 +70,7 @@ link_apart d last spot is = ap is_seat is ∙ off_seat d last
 
 -- the blocks of a table have numbers of 32 bits
 pub few_blocks : (l : Layout) → IsWithinLimits l → block_count l < 2 ^ 32
-few_blocks l limits = let d = few_descriptors l limits in let r = limits.few_runners in omega (arith, d, r)
+few_blocks l limits = let few = blocks_few l limits in omega (arith, few)
 
 -- what a run links next
 record IsLink (l : Layout) (block : ℕ) (q : RunState) (micro : Micro) (x : Spot × Access) : Type 0 where

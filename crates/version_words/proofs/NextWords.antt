@@ -17,7 +17,7 @@ use Rattle.machine_states.specs.table_words.specs.Limits.{IsWithinLimits}
 use Rattle.machine_states.specs.table_words.specs.Places.{part_words}
 use Rattle.machine_states.specs.structure_laws.specs.Meaning.{Meaning}
 use Rattle.machine_states.specs.structure_laws.specs.Laws.{Laws}
-use Rattle.machine_states.specs.runner_parts.specs.block_words.specs.Blocks.{part_spot, log_spot}
+use Rattle.machine_states.specs.body_terms.specs.block_words.specs.Blocks.{part_spot, log_spot}
 use Rattle.machine_states.specs.runner_parts.specs.declared.event.EventKind.{EventKind}
 use Rattle.machine_states.specs.runner_parts.specs.State.{RunState}
 use Rattle.machine_states.specs.runner_steps.specs.Sections.{is_open_run, line_of, next_of, commits_to, is_beyond}

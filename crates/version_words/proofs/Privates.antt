@@ -50,6 +50,7 @@ use Rattle.version_words.specs.Events.{met_by, IsEnabled, IsNamed, IsBlind, Make
 use Rattle.version_words.proofs.Asked.{unless_gone, tested}
 use Rattle.machine_states.specs.structure_laws.specs.Laws.{Laws}
 use Rattle.machine_states.specs.table_words.specs.Limits.{IsWithinLimits}
+use Rattle.machine_states.specs.table_words.proofs.Counts.{few_blocks}
 use Rattle.machine_states.specs.epoch_core.specs.small_lemmas.proofs.Numbers.{not_less_tested}
 use Rattle.machine_states.specs.epoch_core.specs.Lists.{times}
 use Rattle.machine_invariant.specs.After.{AreAllowed}
@@ -276,7 +277,8 @@ module _ (m : Meaning) (l : Layout) (rs : List Request) (r : ℕ) (slot word num
 -- the own slots of a table have numbers of 32 bits
 pub few_own_blocks : (m : Meaning) → Laws m → (l : Layout) → IsWithinLimits l → blocks_from m l + block_count l < 2 ^ 32
 few_own_blocks m laws l limits =
-    let a = laws.first.few_slots in let b = limits.few_nodes in let c = limits.few_runners in let d = few_descriptors l limits in omega (arith, a, b, c, d)
+    let a = laws.first.few_slots in let b = limits.few_nodes in let c = limits.few_runners in let d = few_descriptors l limits in
+    let e = few_blocks l limits in omega (arith, a, b, c, d, e)
 
 -- a block of which a word is stored is one of the table's
 pub store_block : (m : Meaning) (l : Layout) (rs : List Request) (r block word number : ℕ) (p : PartState) (x : Spot × Access)

@@ -3,7 +3,7 @@ ghost use Rattle.std.specs.Prelude.{◌≡◌, ◌≤◌, ◌<◌, [], IfOk, IfE
 ghost use Rattle.machine_states.specs.map_history.specs.declared.op.Request.{Request};
 ghost use Rattle.machine_states.specs.map_history.specs.Requests.{AreInOrder};
 ghost use Rattle.machine_states.specs.table_words.specs.Limits.{IsWithinLimits};
-ghost use Rattle.machine_states.specs.table_words.specs.Places.{slot_count, worker_blocks, keeper_blocks};
+ghost use Rattle.machine_states.specs.table_words.specs.Places.{slot_count};
 ghost use Rattle.machine_states.specs.runner_parts.specs.declared.event.EventKind.TheVariants as kinds;
 ghost use Rattle.machine_states.specs.First.{keeper_part, worker_part};
 ghost use Rattle.runner_block.specs.Marks.{marks_of};
@@ -46,20 +46,6 @@ fn boxed(alloc: Global, lists: Kept) -> Result<Box<Block, Global>, AllocError>
     Ok(Box::new(alloc, Block { lists, place })?)
 }
 
-/// How many blocks a worker has, and the keeper. As long as no body agrees on more words than a descriptor has room for,
-/// there are none.
-fn worker_blocks(_layout: Layout) -> u32
-    ensures { result ≡ worker_blocks _layout }
-{
-    0
-}
-
-fn keeper_blocks(_layout: Layout) -> u32
-    ensures { result ≡ keeper_blocks _layout }
-{
-    0
-}
-
 /// The keeper's lists: its node slots, descriptors and blocks come after the workers'.
 fn keeper_lists<S: Structure>(
     alloc: Global,
@@ -84,18 +70,13 @@ fn keeper_lists<S: Structure>(
         count: workers,
         room: layout.sections * workers + workers,
     };
-    let lists = Kept::new(
-        alloc,
-        nodes,
-        descriptors,
-        worker_blocks(layout) * workers,
-        keeper_blocks(layout),
-    )?;
+    let before = layout.worker_blocks() * workers;
+    let lists = Kept::new(alloc, nodes, descriptors, before, layout.keeper_blocks())?;
     boxed(alloc, lists)
 }
 
 /// The lists of this worker.
-#[tactic(auto, using(machine_states::proofs::Firsts::nodes_below, machine_states::proofs::Firsts::sections_below))]
+#[tactic(auto, using(machine_states::proofs::Firsts::nodes_below, machine_states::proofs::Firsts::sections_below, machine_states::proofs::Firsts::blocks_below))]
 fn worker_lists<S: Structure>(
     alloc: Global,
     structure: &S,
@@ -121,13 +102,8 @@ fn worker_lists<S: Structure>(
         count: layout.sections,
         room: layout.sections * layout.runners + layout.runners,
     };
-    let lists = Kept::new(
-        alloc,
-        nodes,
-        descriptors,
-        worker_blocks(layout) * worker,
-        worker_blocks(layout),
-    )?;
+    let own = layout.worker_blocks();
+    let lists = Kept::new(alloc, nodes, descriptors, own * worker, own)?;
     boxed(alloc, lists)
 }
 

@@ -1,6 +1,6 @@
 //! The serving of a table's first requests, and what was answered.
 ghost use Rattle.std.specs.Prelude.{◌≡◌, ◌≤◌, All, IfOk, length, take, true};
-ghost use Rattle.serving.specs.attempt_bounds.specs.version_words.specs.TableState.{IsOf};
+ghost use Rattle.table_steps.specs.version_words.specs.TableState.{IsOf};
 ghost use Rattle.serving.specs.Serving.{MayServe};
 ghost use Rattle.speed.specs.Asked.{requests_of};
 ghost use Rattle.speed.specs.Rounds.{IsRound};
@@ -11,7 +11,6 @@ use crate::attempt_rounds::scenes::{close, new_table, split};
 use crate::attempt_rounds::tables::TableKind;
 use hash_table::HashTable;
 use hash_table::lock_walks::Planner;
-use hash_table::lock_walks::version_words::{FlockTable, Runner, Words};
 use leaf_tree::LeafTree;
 use machine_states::body_terms::Steps;
 use machine_states::map_history::Request;
@@ -20,6 +19,7 @@ use serving::serve;
 use std::alloc::{AllocError, Global};
 use std::sync::Wait;
 use std::thread::Threads;
+use table_steps::version_words::{FlockTable, Runner, Words};
 
 /// The hash table has 1,024 buckets.
 const BUCKET_BITS: u32 = 10;

@@ -2,15 +2,15 @@
 ghost use Rattle.std.specs.Prelude.{◌≡◌, ◌≤◌, IfOk, length};
 ghost use Rattle.machine_states.specs.map_history.specs.Requests.{AreInOrder};
 ghost use Rattle.machine_states.specs.table_words.specs.Limits.{IsWithinLimits};
-ghost use Rattle.serving.specs.attempt_bounds.specs.version_words.specs.TableState.{IsOf};
-ghost use Rattle.serving.specs.attempt_bounds.specs.version_words.specs.Stages.{IsKeeper, HasJoined};
+ghost use Rattle.table_steps.specs.version_words.specs.TableState.{IsOf};
+ghost use Rattle.table_steps.specs.version_words.specs.Stages.{IsKeeper, HasJoined};
 ghost use Rattle.speed.specs.Fresh.{IsFresh};
 
 use hash_table::lock_walks::Planner;
-use hash_table::lock_walks::version_words::{FlockTable, Runner, Words};
 use machine_states::map_history::Request;
 use machine_states::table_words::Layout;
 use std::alloc::{AllocError, Global};
+use table_steps::version_words::{FlockTable, Runner, Words};
 
 /// How many of the requests may add a pair.
 fn insertions(requests: &[Request]) -> u32

@@ -1,17 +1,17 @@
 //! A request's section, from the entry of its worker to the end.
 ghost use Rattle.std.specs.Prelude.{◌≡◌, ◌+◌, ◌<◌, ◌≤◌, length, IfSome, IfOk, IfErr};
-ghost use Rattle.runner_steps.specs.table_words.specs.Places.{attempt_blocks};
-ghost use Rattle.try_lock.specs.commit_log.specs.version_words.specs.TableState.{IsOf};
+ghost use Rattle.machine_states.specs.table_words.specs.Places.{attempt_blocks};
+ghost use Rattle.table_steps.specs.version_words.specs.TableState.{IsOf};
 ghost use Rattle.speed.specs.Scenes.{IsScene};
 ghost use Rattle.speed.specs.Workers.{IsBefore, HasRead, MayRun};
 
 use interleave_core::Tray;
-use runner_steps::body_terms::{Outcome, Steps, Thunk, Word};
-use runner_steps::table_words::ATTEMPT_BLOCKS;
-use try_lock::commit_log::version_words::{FlockTable, Runner};
+use machine_states::body_terms::{Outcome, Steps, Thunk, Word};
+use machine_states::table_words::ATTEMPT_BLOCKS;
+use runner_gate::Free;
+use table_steps::version_words::{FlockTable, Runner};
 use try_lock::epoch_slots::{Kind, enter, exit, reserve};
 use try_lock::section_runs::RunEnd;
-use try_lock::section_runs::runner_gate::Free;
 use try_lock::{Section, publish, run_section};
 
 /// The worker, where two node slots, a descriptor and the blocks for two logs are free; else the worker too.

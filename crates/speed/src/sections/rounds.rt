@@ -1,6 +1,6 @@
 //! Tables, on each of which a worker serves its requests.
 ghost use Rattle.std.specs.Prelude.{◌≡◌, ◌≤◌};
-ghost use Rattle.try_lock.specs.commit_log.specs.version_words.specs.TableState.{IsOf};
+ghost use Rattle.table_steps.specs.version_words.specs.TableState.{IsOf};
 ghost use Rattle.speed.specs.Scenes.{IsScene};
 ghost use Rattle.speed.specs.Workers.{IsBefore};
 
@@ -8,7 +8,7 @@ use crate::sections::requests::serve;
 use crate::sections::scenes::{close, new_table, worker};
 use interleave_core::Tray;
 use std::alloc::{AllocError, Global};
-use try_lock::commit_log::version_words::{FlockTable, Runner};
+use table_steps::version_words::{FlockTable, Runner};
 
 /// So many, and no more than there are requests.
 fn at_most_eight(count: u32) -> u32

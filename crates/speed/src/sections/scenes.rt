@@ -1,15 +1,15 @@
 //! A table of the test structure with one worker, who has eight requests.
 ghost use Rattle.std.specs.Prelude.{◌≡◌, IfOk};
-ghost use Rattle.try_lock.specs.commit_log.specs.version_words.specs.TableState.{IsOf};
-ghost use Rattle.try_lock.specs.commit_log.specs.version_words.specs.Stages.{IsKeeper, HasJoined};
+ghost use Rattle.table_steps.specs.version_words.specs.TableState.{IsOf};
+ghost use Rattle.table_steps.specs.version_words.specs.Stages.{IsKeeper, HasJoined};
 ghost use Rattle.speed.specs.Scenes.{IsScene, request_of};
 ghost use Rattle.speed.specs.Workers.{IsBefore};
 
 use interleave_core::Tray;
-use runner_steps::map_history::{Op, Request};
-use runner_steps::table_words::Layout;
+use machine_states::map_history::{Op, Request};
+use machine_states::table_words::Layout;
 use std::alloc::{AllocError, Global};
-use try_lock::commit_log::version_words::{FlockTable, Runner, Words};
+use table_steps::version_words::{FlockTable, Runner, Words};
 
 /// The first request of a trace of its own.
 fn first_of(number: u32) -> Request

@@ -3,15 +3,15 @@
 //! Each kind's loop stands in a function of its own that is given the table, as in a thread. In one function with all
 //! that comes before and after, the loops' own counters would go through memory.
 ghost use Rattle.std.specs.Prelude.{◌≡◌, ◌<◌, length, None};
-ghost use Rattle.table_steps.specs.epoch_core.specs.declared.stage.Stage.TheVariants as stages;
-ghost use Rattle.table_steps.specs.table_words.specs.Limits.{IsWithinLimits};
+ghost use Rattle.machine_states.specs.epoch_core.specs.declared.stage.Stage.TheVariants as stages;
+ghost use Rattle.machine_states.specs.table_words.specs.Limits.{IsWithinLimits};
 ghost use Rattle.table_steps.specs.version_words.specs.TableState.{IsOf};
 ghost use Rattle.table_steps.specs.version_words.specs.Stages.{IsAt, HasFree};
 
 use crate::steps::kinds::Kind;
+use interleave_core::Tray;
 use machine_states::table_words::DESCRIPTOR_WORDS;
 use std::alloc::{AllocError, Global};
-use table_steps::interleave_core::Tray;
 use table_steps::version_words::{FlockTable, Runner};
 use table_steps::{
     collect, crew, enter, entry, exit, fetch, fetch_word, gather, look, new_table, put, slot_of,

@@ -1,6 +1,6 @@
 use Rattle.std.proofs.Common.{ap, arith}
 use Rattle.machine_states.specs.table_words.specs.declared.layout.Layout.{Layout}
-use Rattle.serving.specs.attempt_bounds.specs.version_words.proofs.Stages.{may_join}
+use Rattle.table_steps.specs.version_words.proofs.Stages.{may_join}
 use Rattle.speed.proofs.attempt_rounds.scenes.close.Goals as goal
 
 pub join_runner-keeper-requires-clause-next : goal.join_runner-keeper-requires-clause-next

@@ -1,6 +1,6 @@
 use Rattle.std.proofs.Common.{ap, arith}
 use Rattle.machine_states.specs.table_words.specs.declared.layout.Layout.{Layout}
-use Rattle.serving.specs.attempt_bounds.specs.version_words.proofs.Stages.{may_split}
+use Rattle.table_steps.specs.version_words.proofs.Stages.{may_split}
 use Rattle.speed.proofs.attempt_rounds.scenes.split.Goals as goal
 
 pub runner-requires-clause-next : goal.runner-requires-clause-next

@@ -1,6 +1,6 @@
 use Rattle.std.proofs.Common.{None, arith}
-use Rattle.runner_steps.specs.runner_parts.specs.structure_laws.specs.Tray.{tray}
-use Rattle.try_lock.specs.commit_log.specs.version_words.proofs.Stages.{may_load_fixed}
+use Rattle.machine_states.specs.structure_laws.specs.Tray.{tray}
+use Rattle.table_steps.specs.version_words.proofs.Stages.{may_load_fixed}
 use Rattle.speed.proofs.Whole.{then_read}
 use Rattle.speed.proofs.sections.requests.enter_and_read.Goals as goal
 

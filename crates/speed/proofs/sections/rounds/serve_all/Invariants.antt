@@ -1,4 +1,4 @@
-use Rattle.try_lock.specs.commit_log.specs.version_words.specs.TableState.{IsOf}
+use Rattle.table_steps.specs.version_words.specs.TableState.{IsOf}
 use Rattle.speed.specs.Workers.{IsBefore}
 use Rattle.speed.proofs.sections.rounds.serve_all.Given as goal
 

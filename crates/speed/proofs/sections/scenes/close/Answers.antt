@@ -1,7 +1,7 @@
 use Rattle.std.proofs.Common.{ap, arith}
-use Rattle.runner_steps.specs.runner_parts.specs.structure_laws.specs.Tray.{tray}
-use Rattle.runner_steps.specs.table_words.specs.declared.layout.Layout.{Layout}
-use Rattle.try_lock.specs.commit_log.specs.version_words.proofs.Stages.{may_join}
+use Rattle.machine_states.specs.structure_laws.specs.Tray.{tray}
+use Rattle.machine_states.specs.table_words.specs.declared.layout.Layout.{Layout}
+use Rattle.table_steps.specs.version_words.proofs.Stages.{may_join}
 use Rattle.speed.proofs.sections.scenes.close.Goals as goal
 
 pub join_runner-keeper-requires-clause-next : goal.join_runner-keeper-requires-clause-next

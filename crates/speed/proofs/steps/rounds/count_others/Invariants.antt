@@ -1,5 +1,5 @@
 use Rattle.std.proofs.Common.{◌≡◌, None}
-use Rattle.table_steps.specs.epoch_core.specs.declared.stage.Stage.TheVariants as stages
+use Rattle.machine_states.specs.epoch_core.specs.declared.stage.Stage.TheVariants as stages
 use Rattle.table_steps.specs.version_words.specs.TableState.{IsOf}
 use Rattle.table_steps.specs.version_words.specs.Stages.{IsAt, HasFree}
 use Rattle.speed.proofs.steps.rounds.count_others.Given as goal
